@@ -1,0 +1,3 @@
+pub mod Pos2
+pub mod Range
+pub mod Rect

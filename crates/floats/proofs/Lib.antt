@@ -1,0 +1,5 @@
+pub mod Counts
+pub mod Held
+pub mod Scale
+pub mod Sign
+pub mod Value
