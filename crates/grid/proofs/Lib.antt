@@ -1,0 +1,4 @@
+pub mod Negative
+pub mod Product
+pub mod Whole
+pub mod Within
