@@ -1,8 +1,8 @@
--- Laws of `lowest`: each way it is found, and what it means that nothing is refused. Assumes nothing.
-use mathlib.Core.Path.{_≡_, refl, sym}
+-- Laws of `lowest`: each way it is found, and what it means that nothing is refused; and the two ways to answer. Assumes nothing.
+use mathlib.Core.Path.{_≡_, refl, sym, ap, _∙_}
 use Prim.Native.Nat.{ℕ, zero, suc, _≤_, _<_, min}
 use native.Mathlib.Omega.{arith}
-use Rattle.refusal.specs.Refusal.{lowest}
+use Rattle.refusal.specs.Refusal.{lowest, answered}
 
 pub none-left : (a b : ℕ) → a ≡ 0 → b ≡ lowest a b
 unfolding lowest
@@ -31,3 +31,15 @@ unfolding lowest
 both-none zero b e = (refl, e)
 both-none (suc a) zero e = omega arith
 both-none (suc a) (suc b) e = omega arith
+
+-- ---- an answer whose refusal is n, which a call gave
+module _ {A R : Type 0} (is : A → R) (no : ℕ → R) (n r : ℕ) (e : n ≡ r) where
+  pub taken : n ≡ 0 → (a b : A) → a ≡ b → is a ≡ answered is no r b
+  taken z a b h = ap is h ∙ ap (λ (k : ℕ). answered is no k b) (sym z ∙ e)
+
+  pub turned-away : (n ≡ 0 → ⊥) → (b : A) → no n ≡ answered is no r b
+  turned-away h b = go n h ∙ ap (λ (k : ℕ). answered is no k b) e
+    where
+      go : (n : ℕ) → (n ≡ 0 → ⊥) → no n ≡ answered is no n b
+      go zero h = absurd (h refl)
+      go (suc n) h = refl

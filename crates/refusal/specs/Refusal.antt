@@ -54,3 +54,8 @@ idRefusal id = cond (eqb id 0) zeroId none
 
 abbrev pub codeRefusal : ℕ → ℕ → ℕ
 codeRefusal code last = cond (ltb last code) badCode none
+
+-- an answer that can be refused: the refusal where there is one, else the value
+abbrev pub answered : {A R : Type 0} → (A → R) → (ℕ → R) → ℕ → A → R
+answered is refused zero a = is a
+answered is refused (suc n) a = refused (suc n)
