@@ -1,7 +1,13 @@
 // AreaState of egui's containers/area.rs: where an area is. Codes and floats of any value are taken.
 ghost use mathlib.Core.Path.{_≡_};
-ghost use Rattle.refusal.specs.Refusal.{lowest};
-ghost use Rattle.grid.specs.Grid.{posRefusal};
+ghost use Prim.Native.Nat.{ℕ, _*_};
+ghost use lib.IntN.{ℤ, pos, _+ℤ_, _-ℤ_};
+ghost use lib.Ieee.{Float, binary32, add, sub, mul};
+ghost use Rattle.refusal.specs.Refusal.{none, lowest, codeRefusal};
+ghost use Rattle.refusal.specs.Limits.{lastPivot};
+ghost use Rattle.floats.specs.Count.{at, countOf};
+ghost use Rattle.gui_rounding.specs.GuiRounding.{roundUi, halfAway};
+ghost use Rattle.grid.specs.Grid.{posRefusal, pivotRefusal, sideRefusal};
 ghost use Rattle.area.specs.Area.{positionOf, extentOf, toFactor, defaultState, leftTop, withLeftTop, rectOf};
 ghost use Rattle.area.specs.Area.{pivotPosAt, sizeAt, stateRefusal, posAnswer, rectAnswer, stateAnswer};
 use emath::Pos2;
@@ -204,3 +210,13 @@ impl AreaState {
         }
     }
 }
+
+// The edges of a taken area in whole numbers, one law for both axes: position p in 64ths, size n in 32nds, pivot code f.
+// There is nothing to run.
+pub fn edges_on_grid()
+    ensures { λ _. ⌜ ((position size : Float) (f : ℕ) → pivotRefusal position ≡ none → sideRefusal size ≡ none → codeRefusal f lastPivot ≡ none
+        → (p : ℤ) (n : ℕ) → countOf 64 position ≡ at p → countOf 32 size ≡ at (pos n)
+        → (countOf 32 (roundUi (sub binary32 position (mul binary32 (toFactor f) size))) ≡ at (halfAway (p -ℤ pos (f * n))))
+        × (countOf 32 (roundUi (add binary32 (roundUi (sub binary32 position (mul binary32 (toFactor f) size))) size))
+            ≡ at (halfAway (p -ℤ pos (f * n)) +ℤ pos n))) ⌝ }
+{}

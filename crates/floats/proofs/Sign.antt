@@ -1,12 +1,12 @@
 -- Whole numbers by sign and size: sums, order and size of `signed s n`. Assumes nothing.
-use mathlib.Core.Path.{_≡_, refl, sym, ap, _∙_}
+use mathlib.Core.Path.{_≡_, refl, sym, ap, _∙_, subst}
 use Prim.Native.Nat.{ℕ, zero, suc, _+_, _-_, _≤_, _<_}
-use native.Mathlib.Nat.{add-zero, sub-zero}
+use native.Mathlib.Nat.{add-zero, sub-zero, le-refl}
 use native.Mathlib.Omega.{arith}
 use mathlib.Core.Bool.{Bool, true, false, not, _&&_, _||_, cond}
-use lib.IntN.{ℤ, pos, negsuc, negℤ, natAbs, subℕ, _+ℤ_}
+use lib.IntN.{ℤ, pos, negsuc, negℤ, natAbs, subℕ, _+ℤ_, _-ℤ_}
 use lib.Signed.{ltZ, leZ}
-use lib.Dec.{ltb, leb, eqb, eqb→eq, leb·suc-zero, leb·suc-suc, leb·zero, eqb·zero-suc, eqb·suc-zero}
+use lib.Dec.{T, ltb, leb, eqb, ltb→lt, eqb→eq, leb·suc-zero, leb·suc-suc, leb·zero, eqb·zero-suc, eqb·suc-zero}
 use lib.Ieee.{below, level}
 use lib.Ieee.Fits.{eq→eqb}
 use borrow.Author.Tests.{lt-ltb, le-ltb}
@@ -55,6 +55,37 @@ both-below (suc n) (suc k) = ap (λ (x : ℕ). negℤ (pos x)) (more n k)
   where
     more : (n k : ℕ) → suc (suc (n + k)) ≡ suc n + suc k
     more n k = omega arith
+
+-- ---- a sum or difference is no larger than both sizes together
+size-less : (a b : ℕ) → natAbs (subℕ a b) ≤ a + b
+size-less a b = go (ltb a b) (ltb→lt a b)
+  where
+    past : (a b : ℕ) → a < b → suc (b - suc a) ≤ a + b
+    past a b h = omega arith
+
+    short : (a b : ℕ) → a - b ≤ a + b
+    short a b = omega arith
+
+    go : (t : Bool) → (T t → a < b) → natAbs (cond t (negsuc (b - suc a)) (pos (a - b))) ≤ a + b
+    go true h = past a b (h tt)
+    go false h = short a b
+
+turn : (a b : ℕ) {n : ℕ} → n ≤ b + a → n ≤ a + b
+turn a b h = omega arith
+
+pub size-add : (a b : ℤ) → natAbs (a +ℤ b) ≤ natAbs a + natAbs b
+size-add (pos a) (pos b) = le-refl (a + b)
+size-add (pos a) (negsuc b) = size-less a (suc b)
+size-add (negsuc a) (pos b) = turn (suc a) b (size-less b (suc a))
+size-add (negsuc a) (negsuc b) = omega arith
+
+size-neg : (a : ℤ) → natAbs (negℤ a) ≡ natAbs a
+size-neg (pos zero) = refl
+size-neg (pos (suc a)) = refl
+size-neg (negsuc a) = refl
+
+pub size-sub : (a b : ℤ) → natAbs (a -ℤ b) ≤ natAbs a + natAbs b
+size-sub a b = subst (λ (n : ℕ). natAbs (a -ℤ b) ≤ natAbs a + n) (size-neg b) (size-add a (negℤ b))
 
 -- ---- the order of two floats' sizes and signs is that of the whole numbers
 pub below-signed : (s t : Bool) (n k : ℕ) → below s n t k ≡ ltZ (signed s n) (signed t k)

@@ -1,3 +1,4 @@
+pub mod Accepted
 pub mod Negative
 pub mod Product
 pub mod Whole

@@ -2,8 +2,12 @@
 // Any f32 goes in, NaN and the infinities too.
 ghost use mathlib.Core.Path.{_≡_};
 ghost use mathlib.Core.Bool.{cond};
-ghost use lib.Ieee.{binary32, ofBits, add, sub, neg, lt, eq};
-ghost use Rattle.grid.specs.Grid.{cornerRefusal, pivotRefusal, sideRefusal, posRefusal, pivotPosRefusal, sizeRefusal, crossed, rectRefusal};
+ghost use Prim.Native.Nat.{ℕ, _*_, _≤_};
+ghost use lib.IntN.{ℤ, pos, natAbs};
+ghost use lib.Ieee.{Float, binary32, ofBits, add, sub, neg, lt, eq};
+ghost use Rattle.refusal.specs.Refusal.{none};
+ghost use Rattle.floats.specs.Count.{at, countOf};
+ghost use Rattle.grid.specs.Grid.{within, cornerRefusal, pivotRefusal, sideRefusal, posRefusal, pivotPosRefusal, sizeRefusal, crossed, rectRefusal};
 use emath::Pos2;
 use emath::Rect;
 use refusal::NONE;
@@ -107,3 +111,15 @@ pub fn rect(r: Rect) -> u64
     let max = r.max;
     refusal::lowest(refusal::lowest(pos(min), pos(max)), crossed(r))
 }
+
+// A corner or a pivot position is taken exactly if it is a whole number of steps within its bound. There is nothing to run.
+pub fn taken_steps()
+    ensures { λ _. ⌜ ((c b : ℕ) (x : Float) → within c b x ≡ none → (z : ℤ) × (countOf c x ≡ at z) × (natAbs z ≤ b * c))
+        × ((c b : ℕ) (x : Float) (z : ℤ) → countOf c x ≡ at z → natAbs z ≤ b * c → within c b x ≡ none) ⌝ }
+{}
+
+// A width or a height is taken exactly if it is 0 to 524,288 steps of 1/32. There is nothing to run.
+pub fn taken_sides()
+    ensures { λ _. ⌜ ((x : Float) → sideRefusal x ≡ none → (n : ℕ) × (countOf 32 x ≡ at (pos n)) × (n ≤ 524288))
+        × ((x : Float) (n : ℕ) → countOf 32 x ≡ at (pos n) → n ≤ 524288 → sideRefusal x ≡ none) ⌝ }
+{}
