@@ -60,14 +60,8 @@ fn position(p: PivotPos) -> Pos2
     ensures { λ r. ⌜ r ≡ positionOf p ⌝ }
 {
     match p {
-        PivotPos::Absent => Pos2 {
-            x: 0.0,
-            y: 0.0,
-        },
-        PivotPos::At(x, y) => Pos2 {
-            x: x,
-            y: y,
-        },
+        PivotPos::Absent => Pos2 { x: 0.0, y: 0.0 },
+        PivotPos::At(x, y) => Pos2 { x: x, y: y },
     }
 }
 
@@ -75,14 +69,8 @@ fn extent(s: Size) -> Vec2
     ensures { λ r. ⌜ r ≡ extentOf s ⌝ }
 {
     match s {
-        Size::Absent => Vec2 {
-            x: 0.0,
-            y: 0.0,
-        },
-        Size::Of(x, y) => Vec2 {
-            x: x,
-            y: y,
-        },
+        Size::Absent => Vec2 { x: 0.0, y: 0.0 },
+        Size::Of(x, y) => Vec2 { x: x, y: y },
     }
 }
 
@@ -136,7 +124,10 @@ impl AreaState {
             refusal::code_refusal(self.pivot.x, LAST_PIVOT),
             refusal::code_refusal(self.pivot.y, LAST_PIVOT),
         );
-        refusal::lowest(codes, refusal::lowest(pivot_pos_refusal(pivot_pos), size_refusal(size)))
+        refusal::lowest(
+            codes,
+            refusal::lowest(pivot_pos_refusal(pivot_pos), size_refusal(size)),
+        )
     }
 
     // left_top_pos of any state, on the grid or not.
@@ -218,5 +209,5 @@ pub fn edges_on_grid()
         → (p : ℤ) (n : ℕ) → countOf 64 position ≡ at p → countOf 32 size ≡ at (pos n)
         → (countOf 32 (roundUi (sub binary32 position (mul binary32 (toFactor f) size))) ≡ at (halfAway (p -ℤ pos (f * n))))
         × (countOf 32 (roundUi (add binary32 (roundUi (sub binary32 position (mul binary32 (toFactor f) size))) size))
-            ≡ at (halfAway (p -ℤ pos (f * n)) +ℤ pos n))) ⌝ }
+        ≡ at (halfAway (p -ℤ pos (f * n)) +ℤ pos n))) ⌝ }
 {}

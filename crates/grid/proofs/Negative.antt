@@ -66,14 +66,14 @@ pub near-side : (t : Bool) (x : Float) → T (fits binary32 x) → lt x nil ≡ 
 near-side t =
     on-negative (λ (x : Float). le (neg x) (power 18) ≡ true → wholeF (mul binary32 (neg x) (power 5)) ≡ t → cond t 4 3 ≡ sideRefusal x) (λ k. absurd (false≢true (unfold le neg in k)))
     (λ m e f. unfold neg in
-      (λ k l. side-is m e t (sym l ∙ test 5 18 (lit≤ tt) (suc m) e (unsigned true false (suc m) e f) (leb-true (suc m * up e) (2 ^ 18 * down e) (sym (le-power (suc m) e 18) ∙ k)))))
+    (λ k l. side-is m e t (sym l ∙ test 5 18 (lit≤ tt) (suc m) e (unsigned true false (suc m) e f) (leb-true (suc m * up e) (2 ^ 18 * down e) (sym (le-power (suc m) e 18) ∙ k)))))
 
 pub far-side : (t : Bool) (x : Float) → T (fits binary32 x) → lt x nil ≡ true → le (neg x) (power 18) ≡ false → lt (neg x) (inf false) ≡ t → cond t 4 3 ≡ sideRefusal x
 far-side t =
     on-negative (λ (x : Float). le (neg x) (power 18) ≡ false → lt (neg x) (inf false) ≡ t → cond t 4 3 ≡ sideRefusal x)
     (λ k l. unfold sideRefusal countOf neg lt in (ap (λ (b : Bool). cond b 4 3) (sym l)))
     (λ m e f. unfold neg lt in
-      (λ k l. side-is m e t (sym l ∙ sym (eq-eqb (suc m * up e * 32 % down e) 0 (coarse true (suc m) e f (leb-false (suc m * up e) (2 ^ 18 * down e) (sym (le-power (suc m) e 18) ∙ k)))))))
+    (λ k l. side-is m e t (sym l ∙ sym (eq-eqb (suc m * up e * 32 % down e) 0 (coarse true (suc m) e f (leb-false (suc m * up e) (2 ^ 18 * down e) (sym (le-power (suc m) e 18) ∙ k)))))))
 
 -- ---- any other float: as a corner
 pub other-side : (x : Float) → T (fits binary32 x) → lt x nil ≡ false → within 32 16384 x ≡ sideRefusal x

@@ -40,8 +40,8 @@ module _ (m : ℕ) where
   unfolding anyOf
   any-bits =
       one-set (alt m) (λ h z. low (eqb-true (m % 2) 1 h) z) _ (λ a. one-set (ctrl m) (λ h z. second (eqb-true (m / 2 % 2) 1 h) z) _ (λ b. one-set (shift m) (λ h z. third (eqb-true (m / 4 % 2) 1 h) z) _ (λ c. one-set (macCmd m) (λ h z. fourth (eqb-true (m / 8 % 2) 1 h) z) _ (λ d.
-        last (command m) (λ h z. fifth (eqb-true (m / 16 % 2) 1 h) z) (λ e.
-          none-set (eqb-false (m % 2) 1 a) (eqb-false (m / 2 % 2) 1 b) (eqb-false (m / 4 % 2) 1 c) (eqb-false (m / 8 % 2) 1 d) (eqb-false (m / 16 % 2) 1 e))))))
+      last (command m) (λ h z. fifth (eqb-true (m / 16 % 2) 1 h) z) (λ e.
+      none-set (eqb-false (m % 2) 1 a) (eqb-false (m / 2 % 2) 1 b) (eqb-false (m / 4 % 2) 1 c) (eqb-false (m / 8 % 2) 1 d) (eqb-false (m / 16 % 2) 1 e))))))
     where
       low : m % 2 ≡ 1 → m % 32 ≡ 0 → ⊥
       low h z = omega arith

@@ -12,11 +12,17 @@ use refusal::NONE;
 
 // FocusDirection, as declared in memory/mod.rs.
 pub const UP: u64 = 0;
+
 pub const RIGHT: u64 = 1;
+
 pub const DOWN: u64 = 2;
+
 pub const LEFT: u64 = 3;
+
 pub const PREVIOUS: u64 = 4;
+
 pub const NEXT: u64 = 5;
+
 pub const NO_DIRECTION: u64 = 6;
 
 pub enum Event {
@@ -93,7 +99,11 @@ pub fn is_cardinal(direction: u64) -> bool
 fn plain(modifiers: u64, result: Navigation) -> Navigation
     ensures { λ r. ⌜ r ≡ cond (anyOf modifiers) Navigation.Unchanged result ⌝ }
 {
-    if any(modifiers) { Navigation::Unchanged } else { result }
+    if any(modifiers) {
+        Navigation::Unchanged
+    } else {
+        result
+    }
 }
 
 fn tab(modifiers: u64) -> Navigation
@@ -131,7 +141,12 @@ impl Event {
         ensures { λ r. ⌜ r ≡ eventRefusal self ⌝ }
     {
         match self {
-            Event::Key { key, pressed: _, repeat: _, modifiers } => refusal::lowest(
+            Event::Key {
+                key,
+                pressed: _,
+                repeat: _,
+                modifiers,
+            } => refusal::lowest(
                 refusal::code_refusal(key, LAST_KEY),
                 refusal::code_refusal(modifiers, LAST_MODIFIERS),
             ),
@@ -175,7 +190,12 @@ impl EventFilter {
         ensures { λ r. ⌜ r ≡ matchesOf self event ⌝ }
     {
         match event {
-            Event::Key { key, pressed: _, repeat: _, modifiers: _ } => self.matches_key(key),
+            Event::Key {
+                key,
+                pressed: _,
+                repeat: _,
+                modifiers: _,
+            } => self.matches_key(key),
             Event::AccessKitFocus(_) => true,
             Event::Pointer(_, _) => true,
             Event::Zoom(_) => true,

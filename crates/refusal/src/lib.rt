@@ -25,17 +25,26 @@ pub const FAMILY: u64 = 9;
 
 // How many a table or a list holds.
 pub const LAYERS: usize = 64;
+
 pub const WIDGETS: usize = 256;
+
 pub const CACHED: usize = 256;
+
 pub const EVENTS: usize = 64;
+
 pub const USED: usize = 256;
 
 // The last code of each kind.
 pub const LAST_ORDER: u64 = 4;
+
 pub const LAST_KEY: u64 = 144;
+
 pub const LAST_DIRECTION: u64 = 6;
+
 pub const LAST_MODIFIERS: u64 = 31;
+
 pub const LAST_PIVOT: u64 = 2;
+
 pub const LAST_SENSE: u64 = 7;
 
 // The lower of two refusals; 0 is none.

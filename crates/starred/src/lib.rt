@@ -1,0 +1,8 @@
+// The starred panel situations of document 01, proved together as one table. There is nothing to run.
+ghost use mathlib.Core.Path.{_≡_};
+ghost use mathlib.Core.Bool.{true};
+ghost use Rattle.starred.specs.Starred.{allHold, situations};
+
+pub fn starred_situations()
+    ensures { λ _. ⌜ allHold situations ≡ true ⌝ }
+{}
