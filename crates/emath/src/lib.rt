@@ -1,5 +1,11 @@
 // The part of emath that the panel's memory leans on: positions, vectors, ranges and rectangles of f32. Any f32 is taken.
 ghost use mathlib.Core.Path.{_≡_};
+ghost use mathlib.Core.Bool.{cond};
+ghost use Prim.Native.Nat.{ℕ, _<_};
+ghost use lib.IntN.{ℤ};
+ghost use lib.Signed.{ltZ};
+ghost use lib.Ieee.{Float};
+ghost use Rattle.floats.specs.Count.{at, countOf};
 ghost use Rattle.emath.specs.Pos2.{roundPos};
 ghost use Rattle.emath.specs.Range.{maxF, minF, spanOf, centerOf, intersectionOf};
 ghost use Rattle.emath.specs.Rect.{everything, fromMinSize, containsPos, xRange, yRange, roundRect};
@@ -49,6 +55,12 @@ pub fn min(a: f32, b: f32) -> f32
     }
     a
 }
+
+// On a grid the larger and the smaller of two numbers are those of their steps. There is nothing to run.
+pub fn choice_on_grid()
+    ensures { λ _. ⌜ ((c : ℕ) → 0 < c → (x y : Float) (a b : ℤ) → countOf c x ≡ at a → countOf c y ≡ at b
+        → (countOf c (maxF x y) ≡ at (cond (ltZ a b) b a)) × (countOf c (minF x y) ≡ at (cond (ltZ b a) b a))) ⌝ }
+{}
 
 impl Pos2 {
     pub fn round_ui(self) -> Pos2
