@@ -1,5 +1,5 @@
 -- The definitions of an area, from what each call of the code gave. Assumes nothing.
-use mathlib.Core.Path.{_≡_, refl, sym, ap, _∙_}
+use mathlib.Core.Path.{_≡_, refl, ap, _∙_}
 use Prim.Native.Nat.{ℕ, zero, suc}
 use lib.Ieee.{Float, binary32, add, sub, mul, ofBits}
 use Rattle.refusal.specs.Refusal.{lowest, codeRefusal}

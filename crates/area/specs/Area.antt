@@ -9,12 +9,11 @@ use Rattle.emath.specs.declared.Vec2.{Vec2}
 use Rattle.emath.specs.declared.Rect.{Rect}
 use Rattle.emath.specs.Pos2.{roundPos}
 use Rattle.emath.specs.Rect.{fromMinSize, roundRect}
-use Rattle.grid.specs.Grid.{posRefusal, pivotPosRefusal, sizeRefusal}
+use Rattle.grid.specs.Grid.{pivotPosRefusal, sizeRefusal}
 use Rattle.area.specs.declared.PivotPos.{PivotPos}
 use Rattle.area.specs.declared.PivotPos.the-variants as PivotPos
 use Rattle.area.specs.declared.Size.{Size}
 use Rattle.area.specs.declared.Size.the-variants as Size
-use Rattle.area.specs.declared.Align2.{Align2}
 use Rattle.area.specs.declared.AreaState.{AreaState}
 use Rattle.area.specs.declared.PosAnswer.{PosAnswer}
 use Rattle.area.specs.declared.PosAnswer.the-variants as PosAnswer

@@ -4,11 +4,10 @@ use Prim.Native.Nat.{ℕ, _*_, _<_}
 use mathlib.Core.Bool.{Bool, true, false, not, _&&_, _||_, cond}
 use lib.IntN.{ℤ}
 use lib.Signed.{ltZ}
-use lib.Dec.{eqb}
 use lib.Ieee.{Float, nan, inf, fin, lt, ne, up, down, isNan}
 use borrow.Author.Tests.{eq-eqb}
-use Rattle.floats.specs.Count.{off, at, countOf}
-use Rattle.floats.proofs.Counts.{Valued, count-value, lt-count, pick-count}
+use Rattle.floats.specs.Count.{at, countOf}
+use Rattle.floats.proofs.Counts.{count-value, lt-count, pick-count}
 use Rattle.emath.specs.Range.{maxF, minF}
 
 -- only NaN differs from itself

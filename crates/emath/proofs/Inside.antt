@@ -1,6 +1,6 @@
 -- `containsPos`, test by test. Assumes nothing.
-use mathlib.Core.Path.{_≡_, refl, sym, ap, _∙_}
-use mathlib.Core.Bool.{Bool, true, false, _&&_}
+use mathlib.Core.Path.{_≡_}
+use mathlib.Core.Bool.{true, false}
 use lib.Ieee.{le}
 use Rattle.emath.specs.declared.Pos2.{Pos2}
 use Rattle.emath.specs.declared.Rect.{Rect}

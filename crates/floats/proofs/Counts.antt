@@ -1,19 +1,19 @@
 -- Sums, differences, halves and comparisons of f32 that are whole numbers of 1 / c are those of the whole numbers. Assumes nothing.
 use mathlib.Core.Path.{_≡_, refl, sym, ap, _∙_, subst}
-use Prim.Native.Nat.{ℕ, zero, suc, _+_, _-_, _*_, _/_, _%_, _^_, _≤_, _<_}
-use native.Mathlib.Nat.{mul-div-cancel, mul-mod-left, div-add-mod', add-zero, mul-one, mul-comm, mul-assoc}
+use Prim.Native.Nat.{ℕ, suc, _+_, _-_, _*_, _/_, _%_, _^_, _≤_, _<_}
+use native.Mathlib.Nat.{mul-div-cancel, mul-mod-left, div-add-mod', add-zero}
 use native.Mathlib.Omega.{arith}
-use mathlib.Core.Bool.{Bool, true, false, not, _&&_, Bool·beq, cond}
+use mathlib.Core.Bool.{Bool, true, false, not, _&&_, cond}
 use lib.IntN.{ℤ, pos, negsuc, negℤ, natAbs, subℕ, _+ℤ_, _-ℤ_}
 use lib.Signed.{ltZ, leZ}
-use lib.Dec.{T, ltb, eqb, ltb→lt, nltb→le, eqb→eq, lit<}
+use lib.Dec.{T, ltb, eqb, ltb→lt, nltb→le}
 use lib.Pow.{pow-pos}
-use lib.Ieee.{Float, nan, inf, fin, binary32, up, down, round, sum, add, sub, neg, mul, lt, le}
+use lib.Ieee.{Float, nan, inf, fin, binary32, up, down, round, sum, add, sub, neg, lt, le}
 use lib.Ieee.Fits.{down-pos}
 use lib.Ieee.Exact.{HasValue}
-use borrow.Author.Tests.{eq-eqb, eqb-true, eqb-false}
-use Rattle.floats.specs.Count.{signed, Count, off, at, countOf}
-use Rattle.floats.proofs.Value.{add-at, neg-at, mul-at, lt-at, le-at, exact, rescaled}
+use borrow.Author.Tests.{eqb-true}
+use Rattle.floats.specs.Count.{signed, off, at, countOf}
+use Rattle.floats.proofs.Value.{add-at, neg-at, lt-at, le-at, exact}
 use Rattle.floats.proofs.Sign.{size-signed, signed-not, pos-less, less-pos, both-below, below-signed, at-most-signed}
 
 -- ---- a count and a value say the same

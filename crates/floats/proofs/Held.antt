@@ -1,7 +1,7 @@
 -- What an f32 can hold: at most 24 digits, no step below 2 ^ -149, nothing past 2 ^ 128; and what follows of its whole part. Assumes nothing.
 use mathlib.Core.Path.{_≡_, refl, sym, ap, _∙_, subst}
 use Prim.Native.Nat.{ℕ, zero, suc, _+_, _-_, _*_, _/_, _%_, _^_, _≤_, _<_, min}
-use native.Mathlib.Nat.{mul-one, one-mul, zero-mul, mul-assoc, mul-lt-mul-of-pos-right, not-le-of-lt, pow-succ'}
+use native.Mathlib.Nat.{mul-one, one-mul, mul-assoc, mul-lt-mul-of-pos-right, not-le-of-lt, pow-succ'}
 use native.Mathlib.Omega.{arith}
 use mathlib.Core.Bool.{Bool, true, false, not, _&&_, cond, true≢false}
 use lib.IntN.{ℤ, pos, negsuc}

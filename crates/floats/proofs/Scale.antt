@@ -1,18 +1,16 @@
 -- Products of whole numbers of 1 / c, division by 1 / 2 ^ k, and the same number in finer steps. Assumes nothing.
 use mathlib.Core.Path.{_≡_, refl, sym, ap, _∙_, subst}
 use Prim.Native.Nat.{ℕ, zero, suc, _+_, _*_, _^_, _≤_, _<_}
-use native.Mathlib.Nat.{mul-one, one-mul, mul-comm, mul-assoc, zero-mul, mul-zero, mul-pos, add-zero}
-use native.Mathlib.Omega.{arith}
+use native.Mathlib.Nat.{mul-one, one-mul, mul-comm, mul-assoc, zero-mul, mul-zero, mul-pos}
 use mathlib.Core.Bool.{Bool, true, false}
 use lib.IntN.{ℤ, pos, negsuc, negℤ, natAbs, _*ℤ_}
 use lib.Dec.{lit<}
 use lib.Pow.{pow-pos, pow-add}
 use lib.Ieee.{Float, binary32, round, mul, div, unlike}
-use lib.Ieee.Exact.{HasValue}
 use lib.Ieee.Scale.{round-same}
 use Rattle.floats.specs.Count.{signed, at, countOf}
 use Rattle.floats.proofs.Value.{mul-at, div-at, rescaled}
-use Rattle.floats.proofs.Counts.{Valued, value-count, count-value, round-count, sized}
+use Rattle.floats.proofs.Counts.{value-count, count-value, round-count, sized}
 
 -- ---- products by sign and size
 neg-product : (n k : ℕ) → negℤ (pos (n * k)) ≡ pos n *ℤ negℤ (pos k)

@@ -6,7 +6,7 @@ use native.Mathlib.Omega.{arith}
 use mathlib.Core.Bool.{Bool, true, false, not, _&&_, _||_, cond}
 use lib.IntN.{ℤ, pos, negsuc, negℤ, natAbs, subℕ, _+ℤ_, _-ℤ_}
 use lib.Signed.{ltZ, leZ}
-use lib.Dec.{T, ltb, leb, eqb, ltb→lt, eqb→eq, leb·suc-zero, leb·suc-suc, leb·zero, eqb·zero-suc, eqb·suc-zero}
+use lib.Dec.{T, ltb, eqb, ltb→lt, eqb→eq, leb·suc-zero, leb·suc-suc, leb·zero, eqb·zero-suc, eqb·suc-zero}
 use lib.Ieee.{below, level}
 use lib.Ieee.Fits.{eq→eqb}
 use borrow.Author.Tests.{lt-ltb, le-ltb}

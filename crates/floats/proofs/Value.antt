@@ -1,16 +1,15 @@
 -- An operation sees only the numbers that its operands are: each result is `sum`, `round` or a comparison of any fractions of the same size.
 -- `HasValue x s a c` (lib.Ieee.Exact): x is finite, has the sign s, and is a / c in size. Assumes nothing.
 use mathlib.Core.Path.{_≡_, refl, sym, ap, _∙_, subst}
-use Prim.Native.Nat.{ℕ, zero, suc, _+_, _-_, _*_, _^_, _≤_, _<_}
+use Prim.Native.Nat.{ℕ, _+_, _-_, _*_, _^_, _≤_, _<_}
 use native.Mathlib.Nat.{le-of-lt, le-of-eq, lt-irrefl, eq-or-lt-of-le, mul-comm, mul-assoc, mul-left-comm, mul-right-comm, add-mul, mul-sub, mul-pos, mul-lt-mul-of-pos-right, lt-of-mul-lt-mul-right, lt-of-lt-of-le, eq-of-mul-eq-mul-right, mul-mul-mul-comm, zero-mul}
 use native.Mathlib.Omega.{arith}
 use mathlib.Core.Bool.{Bool, true, false, not, _&&_, _||_, Bool·beq, cond}
 use mathlib.Core.Logic.{_⊎_, inl, inr}
 use borrow.Author.Tests.{ne-eqb}
-use lib.IntN.{ℤ}
 use lib.Dec.{T, ltb, eqb, leb, ltb→lt, lt→ltb, eqb→eq, leb→le, le→leb}
 use lib.Pow.{pow-add, pow-pos, pow-mono, shl-lt}
-use lib.Ieee.{Float, nan, inf, fin, binary32, unlike, up, down, round, sum, add, sub, neg, mul, div, lt, le, eq, below, level}
+use lib.Ieee.{Float, nan, inf, fin, binary32, unlike, up, down, round, sum, add, neg, mul, div, lt, le, eq, below, level}
 use lib.Ieee.Fits.{up-pos, down-pos, eq→eqb, and-l}
 use lib.Ieee.Digits.{back}
 use lib.Ieee.Exact.{HasValue, round-exact}

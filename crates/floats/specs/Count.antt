@@ -1,7 +1,7 @@
 -- An f32 as a whole number of steps of 1 / c: how IEEE 754's numbers stand on document 01's grid. Definitions only.
-use Prim.Native.Nat.{ℕ, suc, _+_, _*_, _/_, _%_}
+use Prim.Native.Nat.{ℕ, _*_, _/_, _%_}
 use mathlib.Core.Bool.{Bool, true, false, cond}
-use lib.IntN.{ℤ, pos, negsuc, negℤ}
+use lib.IntN.{ℤ, pos, negℤ}
 use lib.Dec.{eqb}
 use lib.Ieee.{Float, nan, inf, fin, up, down}
 

@@ -1,7 +1,6 @@
 // f32 as whole numbers of steps: sums, differences, products, halves, the order and the choice of numbers on a grid are exact,
 // and are those of the whole numbers. Each law is the contract of an empty function; there is nothing to run.
 ghost use mathlib.Core.Path.{_≡_};
-ghost use mathlib.Core.Bool.{Bool, cond};
 ghost use Prim.Native.Nat.{ℕ, _+_, _*_, _^_, _≤_, _<_};
 ghost use lib.IntN.{ℤ, natAbs, _+ℤ_, _-ℤ_, _*ℤ_};
 ghost use lib.Signed.{ltZ, leZ};

@@ -1,7 +1,7 @@
 -- The tests of `side`: a negative float within 2 ^ 18 by the whole-number test, and every one past it is on the grid. Assumes nothing.
 use mathlib.Core.Path.{_≡_, refl, sym, ap, _∙_, subst}
 use Prim.Native.Nat.{ℕ, zero, suc, _+_, _-_, _*_, _/_, _%_, _^_, _≤_, _<_}
-use native.Mathlib.Nat.{mul-one, mul-assoc, zero-mul, mod-one, mul-mod-left, mul-pos, zero-lt-suc, div-add-mod', add-zero, lt-irrefl}
+use native.Mathlib.Nat.{mul-assoc, zero-mul, mod-one, mul-mod-left, mul-pos, zero-lt-suc, div-add-mod', lt-irrefl}
 use native.Mathlib.Omega.{arith}
 use mathlib.Core.Bool.{Bool, true, false, not, cond, true≢false, false≢true}
 use lib.IntN.{ℤ, pos, negsuc, natAbs}
@@ -11,10 +11,11 @@ use lib.Ieee.{Float, nan, inf, fin, binary32, up, down, mul, neg, lt, le, fits}
 use lib.Ieee.Fits.{up-pos}
 use lib.Ieee.Digits.{back}
 use borrow.Author.Tests.{leb-true, leb-false, eqb-true, eq-eqb}
-use Rattle.floats.specs.Count.{signed, Count, off, at, countOf}
+use Rattle.floats.specs.Count.{signed, off, at, countOf}
 use Rattle.floats.proofs.Held.{held, zero-exponent, unsigned}
 use Rattle.grid.specs.Grid.{onGrid, within, sideAt, sideRefusal}
-use Rattle.grid.proofs.Within.{nil, wholeF, power, below-nil, not-below-nil, le-power, test}
+use Rattle.floats.proofs.Plain.{nil, power, below-nil, not-below-nil, some-digits, le-power}
+use Rattle.grid.proofs.Within.{wholeF, test}
 
 -- ---- past 2 ^ 18 an f32 is a multiple of 1 / 32
 few : (m k : ℕ) → m < 2 ^ 24 → 2 ^ 18 * 2 ^ suc k < m * 1 → suc k ≤ 5
@@ -82,7 +83,7 @@ other-side nan f h = refl
 other-side (inf true) f h = absurd (true≢false (unfold lt in h))
 other-side (inf false) f h = refl
 other-side (fin true zero e) f h = subst (λ (d : ℤ). within 32 16384 (fin true 0 d) ≡ sideRefusal (fin true 0 d)) (sym (zero-exponent true e f)) refl
-other-side (fin true (suc m) e) f h = absurd (true≢false (sym (below-nil m e) ∙ h))
+other-side (fin true (suc m) e) f h = absurd (true≢false (sym (some-digits m e) ∙ sym (below-nil (suc m) e) ∙ h))
 other-side (fin false m e) f h = go (eqb (m * up e * 32 % down e) 0)
   where
     go : (t : Bool) → onGrid (cond t (at (pos (m * up e * 32 / down e))) off) (λ z. cond (leb (natAbs z) (16384 * 32)) 0 3) ≡ onGrid (cond t (at (pos (m * up e * 32 / down e))) off) sideAt

@@ -1,18 +1,17 @@
 -- 2 ^ k times a float is exact as long as it stays below 2 ^ 128. Assumes nothing.
 use mathlib.Core.Path.{_≡_, refl, sym, ap, _∙_, subst}
-use Prim.Native.Nat.{ℕ, zero, suc, _+_, _-_, _*_, _^_, _≤_, _<_}
-use native.Mathlib.Nat.{mul-one, one-mul, mul-assoc, mul-comm, mul-pos, mul-lt-mul-of-pos-right, lt-of-lt-of-le, le-trans}
+use Prim.Native.Nat.{ℕ, suc, _+_, _-_, _*_, _^_, _≤_, _<_}
+use native.Mathlib.Nat.{mul-one, one-mul, mul-assoc, mul-lt-mul-of-pos-right, lt-of-lt-of-le}
 use native.Mathlib.Omega.{arith}
-use mathlib.Core.Bool.{Bool, true, false}
+use mathlib.Core.Bool.{false}
 use lib.IntN.{ℤ, pos, negsuc}
-use lib.Dec.{T, lit<, lit≤}
+use lib.Dec.{T, lit<}
 use lib.Pow.{pow-pos, pow-add, pow-mono, shl-lt}
 use lib.Ieee.{Float, fin, binary32, up, down, round, mul, fits}
 use lib.Ieee.Fits.{down-pos}
 use lib.Ieee.Exact.{HasValue, round-exact}
 use lib.Ieee.Digits.{back}
 use Rattle.floats.proofs.Value.{mul-at}
-use Rattle.floats.proofs.Held as Held
 use Rattle.floats.proofs.Held.{held, exponent}
 
 module _ (k : ℕ) (K : k ≤ 100) where

@@ -1,34 +1,26 @@
 -- y + 2 ^ 23 - 2 ^ 23 is y exactly where y, from 0 to 2 ^ 23, is whole: from 2 ^ 23 on an f32 has no fraction. Assumes nothing.
 use mathlib.Core.Path.{_≡_, refl, sym, ap, _∙_, subst}
-use Prim.Native.Nat.{ℕ, zero, suc, _+_, _-_, _*_, _/_, _%_, _^_, _≤_, _<_}
-use native.Mathlib.Nat.{mul-one, one-mul, mul-mod-left, div-add-mod', add-zero, zero-lt-suc, eq-of-mul-eq-mul-right, le-of-mul-le-mul-right, mul-comm}
+use Prim.Native.Nat.{ℕ, _+_, _-_, _*_, _/_, _%_, _^_, _≤_, _<_}
+use native.Mathlib.Nat.{mul-one, mul-mod-left, div-add-mod', add-zero, eq-of-mul-eq-mul-right, le-of-mul-le-mul-right, le-trans, le-of-eq}
 use native.Mathlib.Omega.{arith}
-use mathlib.Core.Bool.{Bool, true, false, not, _&&_, cond}
-use lib.IntN.{ℤ, pos, negsuc}
+use mathlib.Core.Bool.{Bool, true, false, _&&_}
+use lib.IntN.{pos, negsuc}
 use lib.Dec.{T, eqb, eqb→eq, lit<, lit≤}
-use lib.Pow.{pow-mono}
-use lib.Ieee.{Float, nan, inf, fin, binary32, up, down, round, sum, add, sub, neg, eq, le, fits}
+use lib.Ieee.{Float, nan, inf, fin, binary32, down, round, add, sub, neg, eq, le, fits}
 use lib.Ieee.Fits.{down-pos, round-fits, eq→eqb}
 use lib.Ieee.Exact.{HasValue}
 use lib.Ieee.Back.{round-whole}
 use lib.Ieee.Order.{round-mono}
 use lib.Ieee.Scale.{round-same}
 use lib.Ieee.Positive.{num, den, positive, own-value, values-of-le, between}
-use borrow.Author.Tests.{eqb-true, eq-eqb, le-ltb}
 use Rattle.floats.proofs.Value.{same-test, add-at, neg-at, eq-at, rescaled}
-use Rattle.floats.proofs.Held.{held}
+use Rattle.floats.proofs.Plain.{power, power-value, no-fraction, joined, reduced}
 
 -- 2 ^ 23
 abbrev pub big : Float
-big = fin false 1 (pos 23)
-
-big-value : (d : ℕ) → HasValue big false (2 ^ 23 * d) d
-big-value d = (refl, sym (mul-one (2 ^ 23 * d)))
+big = power 23
 
 -- ---- from 2 ^ 23 on: a whole number
-no-fraction : (m p : ℕ) → m < 2 ^ 24 → 2 ≤ p → 2 ^ 23 * p ≤ m * 1 * 1 → ⊥
-no-fraction m p h k l = omega arith
-
 pub record Whole (x : Float) : Type 0 where
   pub size : ℕ
   pub value : HasValue x false size 1
@@ -38,7 +30,7 @@ no-point nan f p h = absurd p
 no-point (inf s) f p h = absurd p
 no-point (fin true m e) f p h = absurd p
 no-point (fin false m (pos k)) f p h = record { size = m * 2 ^ k; value = (refl, refl) }
-no-point (fin false m (negsuc k)) f p h = absurd (no-fraction m (2 ^ suc k) (held false m (negsuc k) f .digits) (pow-mono (zero-lt-suc k)) h)
+no-point (fin false m (negsuc k)) f p h = absurd (no-fraction false m k f (le-trans h (le-of-eq (mul-one (m * 1)))))
 
 -- a float is one whole number
 one-value : (x : Float) (a b : ℕ) → HasValue x false a 1 → HasValue x false b 1 → a ≡ b
@@ -47,14 +39,6 @@ one-value (inf s) a b v w = absurd v
 one-value (fin s m e) a b v w = eq-of-mul-eq-mul-right (down e) (down-pos e) a b (sym (v .1) ∙ w .1)
 
 -- ---- y is A / D
-from-above : (A B : ℕ) → B ≤ A → sum binary32 false A true B 1 ≡ round binary32 false (A - B) 1
-unfolding sum
-from-above A B h = ap (λ (t : Bool). cond t (round binary32 true (B - A) 1) (round binary32 false (A - B) 1)) (le-ltb A B h)
-
-joined : (A B D : ℕ) → sum binary32 false A false B D ≡ round binary32 false (A + B) D
-unfolding sum
-joined A B D = refl
-
 level-is : (t : Bool) → (t && true) ≡ t
 level-is true = refl
 level-is false = refl
@@ -73,7 +57,7 @@ module _ (y : Float) (A D : ℕ) (p : 0 < D) (v : HasValue y false A D) (h : A �
 
   sum-is : add binary32 y big ≡ S
   unfolding S
-  sum-is = add-at y big false false A (2 ^ 23 * D) D p v (big-value D) ∙ joined A (2 ^ 23 * D) D
+  sum-is = add-at y big false false A (2 ^ 23 * D) D p v (power-value 23 D) ∙ joined A (2 ^ 23 * D) D
 
   at-least : T (le (round binary32 false (2 ^ 23) 1) S)
   unfolding S
@@ -105,7 +89,7 @@ module _ (y : Float) (A D : ℕ) (p : 0 < D) (v : HasValue y false A D) (h : A �
 
   back : sub binary32 S big ≡ round binary32 false (N - 2 ^ 23) 1
   unfolding sub N
-  back = add-at S (neg big) false true (rounded .size) (2 ^ 23) 1 (lit< tt) (rounded .value) (neg-at big false (2 ^ 23) 1 (big-value 1)) ∙ from-above (rounded .size) (2 ^ 23) low
+  back = add-at S (neg big) false true (rounded .size) (2 ^ 23) 1 (lit< tt) (rounded .value) (neg-at big false (2 ^ 23) 1 (power-value 23 1)) ∙ reduced (rounded .size) (2 ^ 23) 1 low
 
   back-value : HasValue (round binary32 false (N - 2 ^ 23) 1) false ((N - 2 ^ 23) * D) D
   back-value =

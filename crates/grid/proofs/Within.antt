@@ -1,36 +1,29 @@
 -- The tests of `corner` and `pivot`, for steps of 1 / 2 ^ k and a bound of 2 ^ w: a size within the bound, and 2 ^ k times it whole. Assumes nothing.
 use mathlib.Core.Path.{_≡_, refl, sym, ap, _∙_, subst}
 use Prim.Native.Nat.{ℕ, zero, suc, _+_, _*_, _/_, _%_, _^_, _≤_, _<_}
-use native.Mathlib.Nat.{mul-one, one-mul, zero-mul, mul-pos, mul-assoc, mul-comm, mul-right-comm, mul-le-mul-right, mul-lt-mul-of-pos-right, le-trans, le-of-eq, lt-of-le-of-lt, lt-of-mul-lt-mul-right, zero-lt-suc, div-add-mod', add-zero, div-lt-iff-lt-mul, lt-suc-self, le-of-suc-le-suc}
+use native.Mathlib.Nat.{mul-right-comm, mul-le-mul-right, mul-lt-mul-of-pos-right, le-trans, le-of-eq, lt-of-le-of-lt, lt-of-mul-lt-mul-right, div-add-mod', add-zero, div-lt-iff-lt-mul, lt-suc-self, le-of-suc-le-suc}
 use native.Mathlib.Omega.{arith}
-use mathlib.Core.Bool.{Bool, true, false, not, cond}
-use lib.IntN.{ℤ, pos, negsuc, natAbs}
-use lib.Dec.{T, ltb, leb, eqb, lit<, lit≤}
+use mathlib.Core.Bool.{Bool, true, false, cond}
+use lib.IntN.{ℤ, pos, natAbs}
+use lib.Dec.{T, leb, eqb, lit<}
 use lib.Pow.{pow-pos, pow-add, pow-mono}
-use lib.Ieee.{Float, nan, inf, fin, binary32, up, down, add, sub, mul, neg, lt, le, eq, fits, ofBits}
-use lib.Ieee.Fits.{up-pos, down-pos}
-use lib.Ieee.Exact.{HasValue}
-use borrow.Author.Tests.{leb-true, leb-false, eqb-true, lt-ltb, le-ltb, le-leb, lt-leb}
-use Rattle.floats.specs.Count.{signed, Count, off, at, countOf}
-use Rattle.floats.proofs.Value.{lt-at, le-at, at-most}
+use lib.Ieee.{Float, nan, inf, fin, binary32, up, down, add, sub, mul, neg, lt, le, eq, fits}
+use lib.Ieee.Fits.{down-pos}
+use borrow.Author.Tests.{leb-true, leb-false, eqb-true, le-leb, lt-leb}
+use Rattle.floats.specs.Count.{signed, off, at, countOf}
+use Rattle.floats.proofs.Plain.{nil, power, below-nil, not-below-nil, some-digits, le-power}
 use Rattle.floats.proofs.Sign.{size-signed}
-use Rattle.floats.proofs.Held.{held, zero-exponent, unsigned}
+use Rattle.floats.proofs.Held.{zero-exponent, unsigned}
 use Rattle.grid.specs.Grid.{onGrid, within}
 use Rattle.grid.proofs.Product.{times}
 use Rattle.grid.proofs.Whole.{big, whole-test}
 
--- the zero that the code writes, the size that it takes, and its test of a whole number
-abbrev pub nil : Float
-nil = fin false 0 (pos 0)
-
+-- the size that the code takes, and its test of a whole number
 abbrev pub absF : Float → Float
 absF x = cond (lt x nil) (neg x) x
 
 abbrev pub wholeF : Float → Bool
 wholeF y = eq (sub binary32 (add binary32 y big) big) y
-
-abbrev pub power : ℕ → Float
-power w = fin false 1 (pos w)
 
 -- the answer for steps of 1 / 2 ^ k and a bound of 2 ^ w
 abbrev pub code : ℕ → ℕ → Float → ℕ
@@ -51,26 +44,10 @@ pivot-zeros true = refl
 pivot-zeros false = refl
 
 -- ---- sizes
-pub below-nil : (m : ℕ) (e : ℤ) → lt (fin true (suc m) e) nil ≡ true
-below-nil m e =
-    lt-at (fin true (suc m) e) nil true false (suc m * up e) 0 (down e) (down-pos e) (refl, refl) (refl, zero-mul (down e))
-    ∙ lt-ltb 0 (suc m * up e + 0) (more (suc m * up e) (mul-pos (zero-lt-suc m) (up-pos e)))
-  where
-    more : (n : ℕ) → 0 < n → 0 < n + 0
-    more n h = omega arith
-
-pub not-below-nil : (m : ℕ) (e : ℤ) → lt (fin false m e) nil ≡ false
-not-below-nil m e = lt-at (fin false m e) nil false false (m * up e) 0 (down e) (down-pos e) (refl, refl) (refl, zero-mul (down e)) ∙ le-ltb (m * up e) 0 (omega arith)
-
 pub size-of : (s : Bool) (m : ℕ) (e : ℤ) → absF (fin s (suc m) e) ≡ fin false (suc m) e
 unfolding neg
-size-of true m e = ap (λ (t : Bool). cond t (fin false (suc m) e) (fin true (suc m) e)) (below-nil m e)
+size-of true m e = ap (λ (t : Bool). cond t (fin false (suc m) e) (fin true (suc m) e)) (below-nil (suc m) e ∙ some-digits m e)
 size-of false m e = ap (λ (t : Bool). cond t (fin true (suc m) e) (fin false (suc m) e)) (not-below-nil (suc m) e)
-
-pub le-power : (m : ℕ) (e : ℤ) (w : ℕ) → le (fin false m e) (power w) ≡ leb (m * up e) (2 ^ w * down e)
-le-power m e w =
-    le-at (fin false m e) (power w) false false (m * up e) (2 ^ w * down e) (down e) (down-pos e) (refl, refl) (refl, ap (λ (x : ℕ). x * down e) (one-mul (2 ^ w)) ∙ sym (mul-one (2 ^ w * down e)))
-    ∙ at-most (m * up e) (2 ^ w * down e)
 
 -- ---- 2 ^ k times a size of at most 2 ^ w
 module _ (k w : ℕ) (K : w + k ≤ 23) where

@@ -1,6 +1,6 @@
 -- Refusals 3 and 4 of corners, sizes, pivot positions and rectangles, from document 01, "Grid" and "What a refused call says". Definitions only.
 use Prim.Native.Nat.{ℕ, _*_}
-use mathlib.Core.Bool.{Bool, _||_, cond}
+use mathlib.Core.Bool.{_||_, cond}
 use lib.IntN.{ℤ, pos, negsuc, natAbs}
 use lib.Dec.{leb}
 use lib.Ieee.{Float, lt}

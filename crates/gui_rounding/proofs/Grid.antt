@@ -1,17 +1,17 @@
 -- `roundUi` on the grid: steps of 1 / 64 become steps of 1 / 32, a tie away from zero. Assumes nothing.
 use mathlib.Core.Path.{_≡_, refl, sym, ap, _∙_, subst}
-use Prim.Native.Nat.{ℕ, zero, suc, _+_, _*_, _/_, _^_, _≤_, _<_}
-use native.Mathlib.Nat.{mul-pos, mul-assoc, mul-comm, mul-right-comm, add-mul, mul-one}
+use Prim.Native.Nat.{ℕ, zero, suc, _+_, _*_, _/_, _^_, _<_}
+use native.Mathlib.Nat.{mul-pos, mul-one}
 use native.Mathlib.Omega.{arith}
 use mathlib.Core.Bool.{Bool, true, false}
-use lib.IntN.{ℤ, pos, negsuc, negℤ, natAbs, _*ℤ_}
+use lib.IntN.{ℤ, pos, natAbs}
 use lib.Dec.{lit<, lit≤}
-use lib.Ieee.{Float, nan, inf, fin, binary32, up, down, round, mul, div, ofBits}
+use lib.Ieee.{Float, nan, inf, fin, binary32, up, down, round, div, ofBits}
 use lib.Ieee.Fits.{down-pos}
 use lib.Ieee.Exact.{HasValue}
 use lib.Ieee.Nearest.{div-same}
 use Rattle.floats.specs.Count.{signed, at, countOf}
-use Rattle.floats.proofs.Counts.{Valued, count-value, round-count, sized}
+use Rattle.floats.proofs.Counts.{count-value, round-count, sized}
 use Rattle.floats.proofs.Sign.{size-signed}
 use Rattle.floats.proofs.Scale.{mul-count, div-count, times-one}
 use Rattle.gui_rounding.specs.GuiRounding.{guiRounding, roundAway, roundUi, halfAway}

@@ -1,34 +1,28 @@
 -- The whole number nearest to a float above zero, as `round_positive` finds it: its whole part, or one more. Assumes nothing.
 use mathlib.Core.Path.{_≡_, refl, sym, ap, _∙_, subst}
-use Prim.Native.Nat.{ℕ, zero, suc, _+_, _-_, _*_, _/_, _%_, _^_, _≤_, _<_}
-use native.Mathlib.Nat.{mul-one, one-mul, zero-mul, add-zero, mod-one, div-one, le-trans, le-of-eq, le-of-lt, lt-of-le-of-lt, lt-of-lt-of-le, mod-le, mod-lt, div-add-mod', div-mul-le-self, mod-eq-sub-div-mul, div-eq-of-lt-le, div-lt-iff-lt-mul, mul-le-mul-right, mul-pos, le-add-right}
+use Prim.Native.Nat.{ℕ, suc, _+_, _*_, _/_, _%_, _^_, _≤_, _<_}
+use native.Mathlib.Nat.{mul-one, one-mul, mod-one, le-trans, le-of-eq, le-of-lt, lt-of-le-of-lt, lt-of-lt-of-le, mod-le, mod-lt, div-add-mod', div-mul-le-self, mod-eq-sub-div-mul, div-eq-of-lt-le, div-lt-iff-lt-mul, mul-le-mul-right, mul-pos, le-add-right}
 use native.Mathlib.Omega.{arith}
-use mathlib.Core.Bool.{Bool, true, false, not, cond, true≢false, false≢true}
+use mathlib.Core.Bool.{true, false}
 use lib.IntN.{ℤ, pos, negsuc}
-use lib.Dec.{T, ltb, leb, ltb→lt, lt→ltb, le→leb, lit<, lit≤}
-use lib.Pow.{pow-pos, pow-mono}
-use lib.Ieee.{Float, nan, inf, fin, binary32, up, down, round, sum, add, sub, lt, neg, fits, ofInt, toUnsigned, inFloat}
-use lib.Ieee.Fits.{up-pos, down-pos}
+use lib.Dec.{T, ltb, lt→ltb, lit<, lit≤}
+use lib.Ieee.{Float, fin, binary32, up, down, round, add, sub, lt, neg, fits, ofInt, toUnsigned}
+use lib.Ieee.Fits.{down-pos}
 use lib.Ieee.Exact.{HasValue}
 use lib.Ieee.Back.{round-whole}
-use borrow.Author.Tests.{ltb-true, ltb-false, lt-ltb, le-ltb}
+use borrow.Author.Tests.{ltb-true, ltb-false}
 use Rattle.floats.proofs.Value.{add-at, lt-at, neg-at, exact, rescaled}
+use Rattle.floats.proofs.Plain.{power, own, lt-power, joined, reduced}
 use Rattle.floats.proofs.Held as Held
 use Rattle.floats.proofs.Held.{held, exponent, whole-part}
 use Rattle.gui_rounding.specs.GuiRounding.{roundAway}
 
--- the zero, the half, the one and the 2 ^ 23 that the code writes
-abbrev pub nil : Float
-nil = fin false 0 (pos 0)
-
+-- the half and the one that the code writes
 abbrev pub half : Float
 half = fin false 1 (negsuc 0)
 
 abbrev pub one : Float
 one = fin false 1 (pos 0)
-
-abbrev pub limit : Float
-limit = fin false 1 (pos 23)
 
 -- ---- the nearest whole number of A / D, by the remainder
 module _ (A D q r : ℕ) (e : q * D + r ≡ A) where
@@ -45,27 +39,12 @@ upper : (A D : ℕ) → 0 < D → D ≤ A % D * 2 → (A * 2 + D) / (D * 2) ≡ 
 upper A D p h = let k = from-half A D (A / D) (A % D) (div-add-mod' A D) h (mod-lt A p) in div-eq-of-lt-le (D * 2) (k .0) (k .1)
 
 -- ---- of m * 2 ^ e below 2 ^ 23
-pub own : (m : ℕ) (e : ℤ) → HasValue (fin false m e) false (m * up e) (down e)
-own m e = (refl, refl)
-
-pub power : (w d : ℕ) → HasValue (fin false 1 (pos w)) false (2 ^ w * d) d
-power w d = (refl, ap (λ (x : ℕ). x * d) (one-mul (2 ^ w)) ∙ sym (mul-one (2 ^ w * d)))
-
 ofInt-is : (n : ℕ) → ofInt binary32 (pos n) ≡ round binary32 false n 1
 unfolding ofInt
 ofInt-is n = refl
 
 ofInt-value : (n : ℕ) → n ≤ 2 ^ 24 → HasValue (ofInt binary32 (pos n)) false n 1
 ofInt-value n h = subst (λ (x : Float). HasValue x false n 1) (sym (ofInt-is n)) (round-whole binary32 false n h)
-
--- a difference that is not below zero
-from-above : (A B D : ℕ) → B ≤ A → sum binary32 false A true B D ≡ round binary32 false (A - B) D
-unfolding sum
-from-above A B D h = ap (λ (t : Bool). cond t (round binary32 true (B - A) D) (round binary32 false (A - B) D)) (le-ltb A B h)
-
-one-more : (n : ℕ) → sum binary32 false n false 1 1 ≡ round binary32 false (n + 1) 1
-unfolding sum
-one-more n = refl
 
 -- the rest behind the point is an f32
 rest-value : (m : ℕ) (e : ℤ) → T (fits binary32 (fin false m e)) → HasValue (round binary32 false (m * up e % down e) (down e)) false (m * up e % down e) (down e)
@@ -76,15 +55,15 @@ rest-value m (negsuc k) f =
     h : Held.Held m (negsuc k)
     h = held false m (negsuc k) f
 
-module _ (m : ℕ) (e : ℤ) (f : T (fits binary32 (fin false m e))) (h : lt (fin false m e) limit ≡ true) where
+module _ (m : ℕ) (e : ℤ) (f : T (fits binary32 (fin false m e))) (h : lt (fin false m e) (power 23) ≡ true) where
   small : m * up e < 2 ^ 23 * down e
-  small = ltb-true (m * up e) (2 ^ 23 * down e) (sym (lt-at (fin false m e) limit false false (m * up e) (2 ^ 23 * down e) (down e) (down-pos e) (own m e) (power 23 (down e))) ∙ h)
+  small = ltb-true (m * up e) (2 ^ 23 * down e) (sym (lt-power m e 23) ∙ h)
 
   part-small : m * up e / down e < 2 ^ 23
   part-small = div-lt-iff-lt-mul (down-pos e) .1 small
 
   part : toUnsigned 64 (fin false m e) ≡ m * up e / down e
-  part = whole-part (fin false m e) (m * up e) (down e) (down-pos e) (lt-of-lt-of-le part-small (lit≤ tt)) (own m e)
+  part = whole-part (fin false m e) (m * up e) (down e) (down-pos e) (lt-of-lt-of-le part-small (lit≤ tt)) (own false m e)
 
   pub few : toUnsigned 64 (fin false m e) ≤ 2 ^ 24
   few = subst (λ (n : ℕ). n ≤ 2 ^ 24) (sym part) (le-trans (le-of-lt part-small) (lit≤ tt))
@@ -92,8 +71,8 @@ module _ (m : ℕ) (e : ℤ) (f : T (fits binary32 (fin false m e))) (h : lt (fi
   -- what the cut to a whole number asks
   pub in-range : T (lt (fin true 1 (pos 0)) (fin false m e)) × T (lt (fin false m e) (fin false 1 (pos 64)))
   in-range = (
-    subst T (sym (lt-at (fin true 1 (pos 0)) (fin false m e) true false (down e) (m * up e) (down e) (down-pos e) (refl, one-mul (down e) ∙ sym (mul-one (down e))) (own m e))) (lt→ltb 0 (down e + m * up e) (lt-of-lt-of-le (down-pos e) (le-add-right (down e) (m * up e)))),
-    subst T (sym (lt-at (fin false m e) (fin false 1 (pos 64)) false false (m * up e) (2 ^ 64 * down e) (down e) (down-pos e) (own m e) (power 64 (down e)))) (lt→ltb (m * up e) (2 ^ 64 * down e) (lt-of-lt-of-le small (mul-le-mul-right (down e) (lit≤ tt)))),
+    subst T (sym (lt-at (fin true 1 (pos 0)) (fin false m e) true false (down e) (m * up e) (down e) (down-pos e) (refl, one-mul (down e) ∙ sym (mul-one (down e))) (own false m e))) (lt→ltb 0 (down e + m * up e) (lt-of-lt-of-le (down-pos e) (le-add-right (down e) (m * up e)))),
+    subst T (sym (lt-power m e 64)) (lt→ltb (m * up e) (2 ^ 64 * down e) (lt-of-lt-of-le small (mul-le-mul-right (down e) (lit≤ tt)))),
   )
 
   part-value : HasValue (ofInt binary32 (pos (m * up e / down e))) false (m * up e / down e) 1
@@ -103,9 +82,9 @@ module _ (m : ℕ) (e : ℤ) (f : T (fits binary32 (fin false m e))) (h : lt (fi
   unfolding sub
   rest =
       let n = m * up e / down e in
-      add-at (fin false m e) (neg (ofInt binary32 (pos n))) false true (m * up e) (n * down e) (down e) (down-pos e) (own m e)
+      add-at (fin false m e) (neg (ofInt binary32 (pos n))) false true (m * up e) (n * down e) (down e) (down-pos e) (own false m e)
       (neg-at (ofInt binary32 (pos n)) false (n * down e) (down e) (rescaled (ofInt binary32 (pos n)) false n 1 (n * down e) (down e) (lit< tt) (mul-one (n * down e)) part-value))
-      ∙ from-above (m * up e) (n * down e) (down e) (div-mul-le-self (m * up e) (down e))
+      ∙ reduced (m * up e) (n * down e) (down e) (div-mul-le-self (m * up e) (down e))
       ∙ ap (λ (r : ℕ). round binary32 false r (down e)) (sym (mod-eq-sub-div-mul (m * up e) (down e)))
 
   test : lt (sub binary32 (fin false m e) (ofInt binary32 (pos (m * up e / down e)))) half ≡ ltb (m * up e % down e * 2) (down e)
@@ -133,5 +112,5 @@ module _ (m : ℕ) (e : ℤ) (f : T (fits binary32 (fin false m e))) (h : lt (fi
       let u = sym test ∙ subst (λ (k : ℕ). lt (sub binary32 (fin false m e) (ofInt binary32 (pos k))) half ≡ false) part t in
       ap (λ (k : ℕ). add binary32 (ofInt binary32 (pos k)) one) part
       ∙ add-at (ofInt binary32 (pos n)) one false false n 1 1 (lit< tt) part-value (refl, refl)
-      ∙ one-more n
+      ∙ joined n 1 1
       ∙ ap (λ (k : ℕ). round binary32 false k 1) (sym (upper (m * up e) (down e) (down-pos e) (ltb-false (m * up e % down e * 2) (down e) u)))

@@ -1,42 +1,25 @@
 -- `roundAway` at every float: one of the code's three ways gives it. Assumes nothing.
 use mathlib.Core.Path.{_≡_, refl, sym, ap, _∙_, subst}
-use Prim.Native.Nat.{ℕ, zero, suc, _+_, _*_, _/_, _^_, _≤_, _<_, zero-le}
-use native.Mathlib.Nat.{zero-mul, add-zero, mul-pos, zero-lt-suc}
+use Prim.Native.Nat.{ℕ, zero, suc, _+_, _*_, _/_, _^_, _≤_}
 use native.Mathlib.Omega.{arith}
-use mathlib.Core.Bool.{Bool, true, false, not, cond, true≢false, false≢true}
+use mathlib.Core.Bool.{Bool, true, false, cond, true≢false, false≢true}
 use lib.IntN.{ℤ, pos, negsuc}
-use lib.Dec.{T, ltb, le→leb}
-use lib.Pow.{pow-mono}
+use lib.Dec.{T, le→leb}
 use lib.Ieee.{Float, nan, inf, fin, binary32, up, down, round, add, sub, lt, neg, fits, ofInt, ofBits, toUnsigned, inFloat}
-use lib.Ieee.Fits.{up-pos, down-pos}
-use borrow.Author.Tests.{ltb-false, lt-ltb, le-ltb}
-use Rattle.floats.proofs.Value.{lt-at}
-use Rattle.floats.proofs.Held.{held, zero-exponent, round-whole, round-neg}
+use borrow.Author.Tests.{ltb-false}
+use Rattle.floats.proofs.Plain.{nil, power, above-nil, below-nil, not-below-nil, some-digits, lt-power, no-fraction}
+use Rattle.floats.proofs.Held.{zero-exponent, round-whole, round-neg}
 use Rattle.gui_rounding.specs.GuiRounding.{roundAway}
-use Rattle.gui_rounding.proofs.Nearest.{nil, half, one, limit, own, power, kept, raised, in-range, few}
+use Rattle.gui_rounding.proofs.Nearest.{half, one, kept, raised, in-range, few}
 
 -- ---- from 2 ^ 23 on
-no-fraction : (m p : ℕ) → m < 2 ^ 24 → 2 ≤ p → 2 ^ 23 * p ≤ m * 1 → ⊥
-no-fraction m p h k l = omega arith
-
 as-it-is : (n : ℕ) → (n * 2 + 1) / 2 ≡ n
 as-it-is n = omega arith
 
 large : (s : Bool) (m : ℕ) (e : ℤ) → T (fits binary32 (fin s m e)) → 2 ^ 23 * down e ≤ m * up e → fin s m e ≡ roundAway (fin s m e)
 unfolding roundAway
 large s m (pos k) f h = sym (ap (λ (n : ℕ). round binary32 s n 1) (as-it-is (m * 2 ^ k)) ∙ round-whole s m k f)
-large s m (negsuc k) f h = absurd (no-fraction m (2 ^ suc k) (held s m (negsuc k) f .digits) (pow-mono (zero-lt-suc k)) h)
-
--- ---- the tests against zero
-above-nil : (m : ℕ) (e : ℤ) → lt nil (fin false m e) ≡ ltb 0 (m * up e)
-above-nil m e = lt-at nil (fin false m e) false false 0 (m * up e) (down e) (down-pos e) (refl, zero-mul (down e)) (own m e)
-
-below-nil : (m : ℕ) (e : ℤ) → lt (fin true m e) nil ≡ ltb 0 (m * up e)
-below-nil m e =
-    lt-at (fin true m e) nil true false (m * up e) 0 (down e) (down-pos e) (refl, refl) (refl, zero-mul (down e)) ∙ ap (λ (n : ℕ). ltb 0 n) (add-zero (m * up e))
-
-some : (m : ℕ) (e : ℤ) → ltb 0 (suc m * up e) ≡ true
-some m e = lt-ltb 0 (suc m * up e) (mul-pos (zero-lt-suc m) (up-pos e))
+large s m (negsuc k) f h = absurd (no-fraction s m k f h)
 
 nothing : (s : Bool) → fin s 0 (pos 0) ≡ roundAway (fin s 0 (pos 0))
 unfolding roundAway round
@@ -49,20 +32,20 @@ level nan f h k = unfold roundAway in refl
 level (inf true) f h k = absurd (true≢false (unfold lt in h))
 level (inf false) f h k = absurd (true≢false (unfold lt in k))
 level (fin s zero e) f h k = subst (λ (d : ℤ). fin s 0 d ≡ roundAway (fin s 0 d)) (sym (zero-exponent s e f)) (nothing s)
-level (fin true (suc m) e) f h k = absurd (true≢false (sym (some m e) ∙ sym (below-nil (suc m) e) ∙ h))
-level (fin false (suc m) e) f h k = absurd (true≢false (sym (some m e) ∙ sym (above-nil (suc m) e) ∙ k))
+level (fin true (suc m) e) f h k = absurd (true≢false (sym (some-digits m e) ∙ sym (below-nil (suc m) e) ∙ h))
+level (fin false (suc m) e) f h k = absurd (true≢false (sym (some-digits m e) ∙ sym (above-nil (suc m) e) ∙ k))
 
 -- ---- above zero
-past : (x : Float) → T (fits binary32 x) → lt nil x ≡ true → lt x limit ≡ false → x ≡ roundAway x
+past : (x : Float) → T (fits binary32 x) → lt nil x ≡ true → lt x (power 23) ≡ false → x ≡ roundAway x
 past nan f h k = unfold roundAway in refl
 past (inf s) f h k = unfold roundAway in refl
 past (fin true m e) f h k = absurd (false≢true (unfold lt in h))
 past (fin false m e) f h k =
-    large false m e f (ltb-false (m * up e) (2 ^ 23 * down e) (sym (lt-at (fin false m e) limit false false (m * up e) (2 ^ 23 * down e) (down e) (down-pos e) (own m e) (power 23 (down e))) ∙ k))
+    large false m e f (ltb-false (m * up e) (2 ^ 23 * down e) (sym (lt-power m e 23) ∙ k))
 
 -- below 2 ^ 23: what holds of each m * 2 ^ e holds of each float
-on-small : (P : Float → Type 0) → ((m : ℕ) (e : ℤ) → T (fits binary32 (fin false m e)) → lt (fin false m e) limit ≡ true → P (fin false m e))
-    → (x : Float) → T (fits binary32 x) → lt nil x ≡ true → lt x limit ≡ true → P x
+on-small : (P : Float → Type 0) → ((m : ℕ) (e : ℤ) → T (fits binary32 (fin false m e)) → lt (fin false m e) (power 23) ≡ true → P (fin false m e))
+    → (x : Float) → T (fits binary32 x) → lt nil x ≡ true → lt x (power 23) ≡ true → P x
 on-small P law nan f h k = absurd (false≢true (unfold lt in h))
 on-small P law (inf true) f h k = absurd (false≢true (unfold lt in h))
 on-small P law (inf false) f h k = absurd (false≢true (unfold lt in k))
@@ -121,7 +104,7 @@ turned nan h = absurd (false≢true (unfold lt in h))
 turned (inf true) h = unfold lt neg in refl
 turned (inf false) h = absurd (false≢true (unfold lt in h))
 turned (fin true m e) h = unfold neg in (above-nil m e ∙ sym (below-nil m e) ∙ h)
-turned (fin false m e) h = absurd (true≢false (sym h ∙ lt-at (fin false m e) nil false false (m * up e) 0 (down e) (down-pos e) (own m e) (refl, zero-mul (down e)) ∙ le-ltb (m * up e) 0 zero-le))
+turned (fin false m e) h = absurd (true≢false (sym h ∙ not-below-nil m e))
 
 pub of-negative : (x y : Float) → lt x (ofBits binary32 0) ≡ true → y ≡ cond (lt (ofBits binary32 0) (neg x)) (roundAway (neg x)) (neg x) → neg y ≡ roundAway x
 unfolding ofBits

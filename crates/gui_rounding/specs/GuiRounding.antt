@@ -1,5 +1,5 @@
 -- emath's gui_rounding.rs for f32, in IEEE 754: `round_ui` is (self / GUI_ROUNDING).round() * GUI_ROUNDING. Definitions only.
-use Prim.Native.Nat.{ℕ, suc, _+_, _*_, _/_}
+use Prim.Native.Nat.{suc, _+_, _*_, _/_}
 use lib.IntN.{ℤ, pos, negsuc, negℤ}
 use lib.Ieee.{Float, nan, inf, fin, binary32, up, down, round, mul, div, ofBits}
 

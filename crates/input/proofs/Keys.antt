@@ -2,8 +2,7 @@
 use mathlib.Core.Path.{_≡_, refl, sym, ap, _∙_}
 use Prim.Native.Nat.{ℕ, _≤_}
 use native.Mathlib.Omega.{arith}
-use mathlib.Core.Bool.{Bool, true, false, not, _&&_, _||_, cond}
-use lib.Dec.{eqb}
+use mathlib.Core.Bool.{Bool, true, false, not, cond}
 use borrow.Author.Tests.{ne-eqb}
 use Rattle.refusal.specs.Refusal.{lowest, idRefusal, codeRefusal}
 use Rattle.refusal.specs.Limits.{lastKey, lastModifiers}

@@ -1,6 +1,6 @@
 -- Laws of `lowest`: each way it is found, and what it means that nothing is refused; and the two ways to answer. Assumes nothing.
 use mathlib.Core.Path.{_≡_, refl, sym, ap, _∙_}
-use Prim.Native.Nat.{ℕ, zero, suc, _≤_, _<_, min}
+use Prim.Native.Nat.{ℕ, zero, suc, _≤_, _<_}
 use native.Mathlib.Omega.{arith}
 use Rattle.refusal.specs.Refusal.{lowest, answered}
 

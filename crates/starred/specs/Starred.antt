@@ -3,7 +3,7 @@ use Prim.Native.Nat.{ℕ}
 use mathlib.Core.Bool.{Bool, true, false, _&&_, Bool·beq}
 use mathlib.Core.List.{List, [], _∷_}
 use lib.Dec.{eqb}
-use lib.Ieee.{Float, binary32, round, toBits, ofBits}
+use lib.Ieee.{Float, binary32, round, toBits}
 use Rattle.area.specs.declared.AreaState.{AreaState}
 use Rattle.area.specs.declared.PosAnswer.{PosAnswer}
 use Rattle.area.specs.declared.PivotPos.the-variants as PivotPos

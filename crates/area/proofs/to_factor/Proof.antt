@@ -1,5 +1,4 @@
 -- `area::to_factor` meets its contract. Assumes nothing.
-use mathlib.Core.Path.{sym, ap}
 use Rattle.area.specs.Area.{toFactor}
 use Rattle.area.proofs.Steps.{high}
 use Rattle.area.proofs.to_factor.Statement.{statement}

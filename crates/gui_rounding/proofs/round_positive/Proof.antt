@@ -2,7 +2,7 @@
 use mathlib.Core.Path.{sym, ap, subst}
 use mathlib.Core.Bool.{Bool, cond}
 use lib.Dec.{T}
-use lib.Ieee.{binary32, fits, ofBits}
+use lib.Ieee.{binary32, fits}
 use Rattle.gui_rounding.specs.GuiRounding.{roundAway}
 use Rattle.gui_rounding.proofs.Rounding.{asks, counted, lower-whole, upper-whole, from-limit}
 use Rattle.gui_rounding.proofs.round_positive.Statement.{statement}
