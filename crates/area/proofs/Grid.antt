@@ -12,13 +12,19 @@ use Rattle.floats.proofs.Counts.{add-count, sub-count}
 use Rattle.floats.proofs.Scale.{mul-count, finer-count}
 use Rattle.floats.proofs.Sign.{size-signed, size-add, size-sub}
 use mathlib.Core.Bool.{Bool, true, false, cond}
-use Rattle.refusal.specs.Refusal.{none, badCode, codeRefusal}
+use Rattle.refusal.specs.Refusal.{none, badCode, lowest, codeRefusal}
+use Rattle.refusal.proofs.Laws.{both-none}
 use Rattle.refusal.specs.Limits.{lastPivot}
-use Rattle.grid.specs.Grid.{pivotRefusal, sideRefusal}
+use Rattle.grid.specs.Grid.{within, pivotRefusal, sideRefusal}
 use Rattle.grid.proofs.Accepted.{within-count, side-count}
 use Rattle.gui_rounding.specs.GuiRounding.{roundUi, halfAway}
 use Rattle.gui_rounding.proofs.Grid.{round-ui-count}
-use Rattle.area.specs.Area.{toFactor}
+use Rattle.area.specs.declared.AreaState.{AreaState}
+use Rattle.area.specs.declared.PivotPos.{PivotPos}
+use Rattle.area.specs.declared.PivotPos.the-variants as PivotPos
+use Rattle.area.specs.declared.Size.{Size}
+use Rattle.area.specs.declared.Size.the-variants as Size
+use Rattle.area.specs.Area.{nil, positionOf, extentOf, toFactor, leftTop, rectOf, lowEdge, highEdge, pivotPosAt, sizeAt, stateRefusal}
 
 -- factor times size: f * n steps of 1 / 64
 factor-count : (f : ℕ) → f ≤ 2 → countOf 2 (toFactor f) ≡ at (pos f)
@@ -86,7 +92,7 @@ module _ (position size : Float) (p : ℤ) (n f : ℕ) (P : countOf 64 position 
       small h i j = omega arith
 
   -- left_top_pos
-  pub left-count : countOf 32 (roundUi (sub binary32 position (mul binary32 (toFactor f) size))) ≡ at (halfAway (p -ℤ pos (f * n)))
+  pub left-count : countOf 32 (roundUi (sub binary32 position (mul binary32 (toFactor f) size))) ≡ at (lowEdge p f n)
   left-count =
       round-ui-count (sub binary32 position (mul binary32 (toFactor f) size)) (p -ℤ pos (f * n))
       (sub-count 6 (lit≤ tt) position (mul binary32 (toFactor f) size) p (pos (f * n)) P part-count (wide shifted))
@@ -96,7 +102,7 @@ module _ (position size : Float) (p : ℤ) (n f : ℕ) (P : countOf 64 position 
       wide h = omega arith
 
   -- rect: the other edge is the size further
-  pub right-count : countOf 32 (roundUi (add binary32 (roundUi (sub binary32 position (mul binary32 (toFactor f) size))) size)) ≡ at (halfAway (p -ℤ pos (f * n)) +ℤ pos n)
+  pub right-count : countOf 32 (roundUi (add binary32 (roundUi (sub binary32 position (mul binary32 (toFactor f) size))) size)) ≡ at (highEdge p f n)
   right-count =
       let z = halfAway (p -ℤ pos (f * n)) in
       let far : natAbs (z +ℤ pos n) < 2 ^ 22 = sum (size-add z (pos n)) (half-size (p -ℤ pos (f * n)) shifted) c in
@@ -113,12 +119,16 @@ module _ (position size : Float) (p : ℤ) (n f : ℕ) (P : countOf 64 position 
       near : {x : ℕ} → x < 2 ^ 22 → x < 2 ^ 23
       near h = omega arith
 
--- ---- the same, of what is taken
+  -- rect's low edge, rounded once more
+  pub low-count : countOf 32 (roundUi (roundUi (sub binary32 position (mul binary32 (toFactor f) size)))) ≡ at (lowEdge p f n)
+  low-count = round-grid (roundUi (sub binary32 position (mul binary32 (toFactor f) size))) (lowEdge p f n) left-count (near (half-size (p -ℤ pos (f * n)) shifted))
+    where
+      near : {x : ℕ} → x ≤ 2 ^ 21 → x < 2 ^ 23
+      near h = omega arith
+
+-- ---- a state that is not refused
 at-is : {a b : ℤ} → at a ≡ at b → a ≡ b
 at-is e = cc
-
-pos-is : {a b : ℕ} → pos a ≡ pos b → a ≡ b
-pos-is e = ap natAbs e
 
 code-taken : (f : ℕ) → codeRefusal f lastPivot ≡ none → f ≤ 2
 code-taken f h = go (ltb 2 f) (ltb-false 2 f) h
@@ -130,11 +140,54 @@ code-taken f h = go (ltb 2 f) (ltb-false 2 f) h
     go true k h = absurd (clash h)
     go false k h = k refl
 
-module _ (position size : Float) (f : ℕ) (h : pivotRefusal position ≡ none) (k : sideRefusal size ≡ none) (l : codeRefusal f lastPivot ≡ none)
-    (p : ℤ) (n : ℕ) (P : countOf 64 position ≡ at p) (N : countOf 32 size ≡ at (pos n)) where
-  pub edges : (countOf 32 (roundUi (sub binary32 position (mul binary32 (toFactor f) size))) ≡ at (halfAway (p -ℤ pos (f * n))))
-      × (countOf 32 (roundUi (add binary32 (roundUi (sub binary32 position (mul binary32 (toFactor f) size))) size)) ≡ at (halfAway (p -ℤ pos (f * n)) +ℤ pos n))
-  edges =
-      let b : natAbs p ≤ 2 ^ 21 = let v = within-count 64 32768 position h in subst (λ (z : ℤ). natAbs z ≤ 2 ^ 21) (at-is (sym (v .1) ∙ P)) (v .2) in
-      let c : n ≤ 2 ^ 19 = let v = side-count size k in subst (λ (m : ℕ). m ≤ 2 ^ 19) (pos-is (at-is (sym (v .1) ∙ N))) (v .2) in
-      (left-count position size p n f P N b c (code-taken f l), right-count position size p n f P N b c (code-taken f l))
+-- a number of the grid, or the zero that stands for an absent one
+position-bound : (x : Float) → pivotRefusal x ≡ none → (p : ℤ) → countOf 64 x ≡ at p → natAbs p ≤ 2 ^ 21
+position-bound x h p e = let v = within-count 64 32768 x h in subst (λ (z : ℤ). natAbs z ≤ 2 ^ 21) (at-is (sym (v .1) ∙ e)) (v .2)
+
+size-bound : (x : Float) → sideRefusal x ≡ none → (n : ℕ) → countOf 32 x ≡ at (pos n) → n ≤ 2 ^ 19
+size-bound x h n e = let v = side-count x h in subst (λ (m : ℕ). m ≤ 2 ^ 19) (ap natAbs (at-is (sym (v .1) ∙ e))) (v .2)
+
+nil-position : pivotRefusal nil ≡ none
+unfolding within countOf ofBits
+nil-position = refl
+
+nil-size : sideRefusal nil ≡ none
+unfolding sideRefusal countOf ofBits
+nil-size = refl
+
+positions : (p : PivotPos) → pivotPosAt p ≡ none → (pivotRefusal (positionOf p .x) ≡ none) × (pivotRefusal (positionOf p .y) ≡ none)
+positions PivotPos.Absent h = (nil-position, nil-position)
+positions (PivotPos.At x y) h = both-none (pivotRefusal x) (pivotRefusal y) h
+
+sizes : (s : Size) → sizeAt s ≡ none → (sideRefusal (extentOf s .x) ≡ none) × (sideRefusal (extentOf s .y) ≡ none)
+sizes Size.Absent h = (nil-size, nil-size)
+sizes (Size.Of x y) h = both-none (sideRefusal x) (sideRefusal y) h
+
+module _ (s : AreaState) (taken : stateRefusal s ≡ none) (p q : ℤ) (w h : ℕ) (P : countOf 64 (positionOf (s .«pivot_pos») .x) ≡ at p) (Q : countOf 64 (positionOf (s .«pivot_pos») .y) ≡ at q)
+    (W : countOf 32 (extentOf (s .size) .x) ≡ at (pos w)) (H : countOf 32 (extentOf (s .size) .y) ≡ at (pos h)) where
+  parts : (lowest (codeRefusal (s .pivot .x) lastPivot) (codeRefusal (s .pivot .y) lastPivot) ≡ none) × (lowest (pivotPosAt (s .«pivot_pos»)) (sizeAt (s .size)) ≡ none)
+  unfolding stateRefusal
+  parts = both-none (lowest (codeRefusal (s .pivot .x) lastPivot) (codeRefusal (s .pivot .y) lastPivot)) (lowest (pivotPosAt (s .«pivot_pos»)) (sizeAt (s .size))) taken
+
+  pub corners : (countOf 32 (leftTop s .x) ≡ at (lowEdge p (s .pivot .x) w)) × (countOf 32 (leftTop s .y) ≡ at (lowEdge q (s .pivot .y) h))
+      × (countOf 32 (rectOf s .min .x) ≡ at (lowEdge p (s .pivot .x) w)) × (countOf 32 (rectOf s .min .y) ≡ at (lowEdge q (s .pivot .y) h))
+      × (countOf 32 (rectOf s .max .x) ≡ at (highEdge p (s .pivot .x) w)) × (countOf 32 (rectOf s .max .y) ≡ at (highEdge q (s .pivot .y) h))
+  unfolding leftTop rectOf
+  corners =
+      let codes = both-none (codeRefusal (s .pivot .x) lastPivot) (codeRefusal (s .pivot .y) lastPivot) (parts .0) in
+      let floats = both-none (pivotPosAt (s .«pivot_pos»)) (sizeAt (s .size)) (parts .1) in
+      let position = positions (s .«pivot_pos») (floats .0) in
+      let size = sizes (s .size) (floats .1) in
+      let fx = code-taken (s .pivot .x) (codes .0) in
+      let fy = code-taken (s .pivot .y) (codes .1) in
+      let px = position-bound (positionOf (s .«pivot_pos») .x) (position .0) p P in
+      let py = position-bound (positionOf (s .«pivot_pos») .y) (position .1) q Q in
+      let sx = size-bound (extentOf (s .size) .x) (size .0) w W in
+      let sy = size-bound (extentOf (s .size) .y) (size .1) h H in (
+        left-count _ _ p w (s .pivot .x) P W px sx fx,
+        left-count _ _ q h (s .pivot .y) Q H py sy fy,
+        low-count _ _ p w (s .pivot .x) P W px sx fx,
+        low-count _ _ q h (s .pivot .y) Q H py sy fy,
+        right-count _ _ p w (s .pivot .x) P W px sx fx,
+        right-count _ _ q h (s .pivot .y) Q H py sy fy,
+      )

@@ -1,5 +1,6 @@
--- AreaState of containers/area.rs (lines 18 to 90 of the Rust), without `last_became_visible_at`, in IEEE 754; Align::to_factor is emath's. Definitions only.
-use Prim.Native.Nat.{ℕ, zero, suc}
+-- AreaState of containers/area.rs (lines 18 to 88 of the Rust), without `last_became_visible_at` and `load`, in IEEE 754; Align::to_factor is emath's. Definitions only.
+use Prim.Native.Nat.{ℕ, zero, suc, _*_}
+use lib.IntN.{ℤ, pos, _+ℤ_, _-ℤ_}
 use mathlib.Core.Bool.{true}
 use lib.Ieee.{Float, binary32, add, sub, mul, ofBits}
 use Rattle.refusal.specs.Refusal.{lowest, codeRefusal, answered}
@@ -7,6 +8,7 @@ use Rattle.refusal.specs.Limits.{lastPivot}
 use Rattle.emath.specs.declared.Pos2.{Pos2}
 use Rattle.emath.specs.declared.Vec2.{Vec2}
 use Rattle.emath.specs.declared.Rect.{Rect}
+use Rattle.gui_rounding.specs.GuiRounding.{halfAway}
 use Rattle.emath.specs.Pos2.{roundPos}
 use Rattle.emath.specs.Rect.{fromMinSize, roundRect}
 use Rattle.grid.specs.Grid.{pivotPosRefusal, sizeRefusal}
@@ -66,6 +68,13 @@ withLeftTop s p = record {
 unfoldable pub rectOf : AreaState → Rect
 unfolding leftTop
 rectOf s = roundRect (fromMinSize (leftTop s) (extentOf (s .size)))
+
+-- ---- the same in whole numbers, on one axis: a position of p 64ths, a pivot's code f, a size of n 32nds, and the edges in 32nds
+abbrev pub lowEdge : ℤ → ℕ → ℕ → ℤ
+lowEdge p f n = halfAway (p -ℤ pos (f * n))
+
+abbrev pub highEdge : ℤ → ℕ → ℕ → ℤ
+highEdge p f n = lowEdge p f n +ℤ pos n
 
 -- ---- what is refused, from document 01's table: 2 a pivot code, 3 a pivot position or size, 4 a negative size
 abbrev pub pivotPosAt : PivotPos → ℕ

@@ -1,13 +1,12 @@
-// AreaState of egui's containers/area.rs: where an area is. Codes and floats of any value are taken.
+// AreaState of egui's containers/area.rs: where an area is. Codes and floats of any value go in; those outside document 01's domain are refused.
 ghost use mathlib.Core.Path.{_≡_};
-ghost use Prim.Native.Nat.{ℕ, _*_};
-ghost use lib.IntN.{ℤ, pos, _+ℤ_, _-ℤ_};
-ghost use lib.Ieee.{Float, binary32, add, sub, mul};
-ghost use Rattle.refusal.specs.Refusal.{none, lowest, codeRefusal};
-ghost use Rattle.refusal.specs.Limits.{lastPivot};
+ghost use Prim.Native.Nat.{ℕ};
+ghost use lib.IntN.{ℤ, pos};
+ghost use Rattle.refusal.specs.Refusal.{none, lowest};
 ghost use Rattle.floats.specs.Count.{at, countOf};
-ghost use Rattle.gui_rounding.specs.GuiRounding.{roundUi, halfAway};
-ghost use Rattle.grid.specs.Grid.{posRefusal, pivotRefusal, sideRefusal};
+ghost use Rattle.grid.specs.Grid.{posRefusal};
+ghost use Rattle.area.specs.declared.AreaState.{AreaState};
+ghost use Rattle.area.specs.Area.{lowEdge, highEdge};
 ghost use Rattle.area.specs.Area.{positionOf, extentOf, toFactor, defaultState, leftTop, withLeftTop, rectOf};
 ghost use Rattle.area.specs.Area.{pivotPosAt, sizeAt, stateRefusal, posAnswer, rectAnswer, stateAnswer};
 use emath::Pos2;
@@ -16,13 +15,13 @@ use emath::Vec2;
 use refusal::LAST_PIVOT;
 use refusal::NONE;
 
-// Option<Pos2>: the last known position of the pivot.
+// Option<Pos2>: where the pivot was put.
 pub enum PivotPos {
     Absent,
     At(f32, f32),
 }
 
-// Option<Vec2>: the last known size.
+// Option<Vec2>: how large the area was.
 pub enum Size {
     Absent,
     Of(f32, f32),
@@ -130,7 +129,7 @@ impl AreaState {
         )
     }
 
-    // left_top_pos of any state, on the grid or not.
+    // left_top_pos of any state, on the grid or not: for callers that hold a stored state.
     pub fn left_top_unchecked(self) -> Pos2
         ensures { λ r. ⌜ r ≡ leftTop self ⌝ }
     {
@@ -145,7 +144,7 @@ impl AreaState {
         corner.round_ui()
     }
 
-    // rect of any state, on the grid or not.
+    // rect of any state, on the grid or not: for callers that hold a stored state.
     pub fn rect_unchecked(self) -> Rect
         ensures { λ r. ⌜ r ≡ rectOf self ⌝ }
     {
@@ -202,12 +201,14 @@ impl AreaState {
     }
 }
 
-// The edges of a taken area in whole numbers, one law for both axes: position p in 64ths, size n in 32nds, pivot code f.
+// The corners of an area that is not refused, in whole numbers: a position of (p, q) 64ths and a size of (w, h) 32nds.
 // There is nothing to run.
-pub fn edges_on_grid()
-    ensures { λ _. ⌜ ((position size : Float) (f : ℕ) → pivotRefusal position ≡ none → sideRefusal size ≡ none → codeRefusal f lastPivot ≡ none
-        → (p : ℤ) (n : ℕ) → countOf 64 position ≡ at p → countOf 32 size ≡ at (pos n)
-        → (countOf 32 (roundUi (sub binary32 position (mul binary32 (toFactor f) size))) ≡ at (halfAway (p -ℤ pos (f * n))))
-        × (countOf 32 (roundUi (add binary32 (roundUi (sub binary32 position (mul binary32 (toFactor f) size))) size))
-        ≡ at (halfAway (p -ℤ pos (f * n)) +ℤ pos n))) ⌝ }
+pub fn corners_on_grid()
+    ensures { λ _. ⌜ ((s : AreaState) → stateRefusal s ≡ none → (p q : ℤ) (w h : ℕ)
+        → countOf 64 (positionOf (s .«pivot_pos») .x) ≡ at p → countOf 64 (positionOf (s .«pivot_pos») .y) ≡ at q
+        → countOf 32 (extentOf (s .size) .x) ≡ at (pos w) → countOf 32 (extentOf (s .size) .y) ≡ at (pos h)
+        → (countOf 32 (leftTop s .x) ≡ at (lowEdge p (s .pivot .x) w)) × (countOf 32 (leftTop s .y) ≡ at (lowEdge q (s .pivot .y) h))
+        × (countOf 32 (rectOf s .min .x) ≡ at (lowEdge p (s .pivot .x) w)) × (countOf 32 (rectOf s .min .y) ≡ at (lowEdge q (s .pivot .y) h))
+        × (countOf 32 (rectOf s .max .x) ≡ at (highEdge p (s .pivot .x) w))
+        × (countOf 32 (rectOf s .max .y) ≡ at (highEdge q (s .pivot .y) h))) ⌝ }
 {}

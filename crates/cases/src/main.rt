@@ -115,49 +115,48 @@ fn rects() {
     );
 }
 
-fn square(position: f32, code: u64, size: f32) -> AreaState {
+// An area whose axes differ: on the y axis it is at y by its high end, 1 high.
+fn area_at(x: f32, code: u64, width: f32, y: f32) -> AreaState {
     AreaState {
-        pivot_pos: PivotPos::At(position, position),
-        pivot: Align2 { x: code, y: code },
-        size: Size::Of(size, size),
+        pivot_pos: PivotPos::At(x, y),
+        pivot: Align2 { x: code, y: 2 },
+        size: Size::Of(width, 1.0),
         interactable: true,
     }
 }
 
-// Whether the left top is at x on both axes.
-fn left_top(s: AreaState, x: f32) -> u64 {
-    match s.left_top_pos() {
-        PosAnswer::Is(p) => {
-            if p.x == x {
-                if p.y == x {
-                    return OK;
-                }
-            }
-            ELSEWHERE
+fn is_at(p: Pos2, x: f32, y: f32) -> u64 {
+    if p.x == x {
+        if p.y == y {
+            return OK;
         }
+    }
+    ELSEWHERE
+}
+
+// Whether the left top is at (x, y).
+fn left_top(s: AreaState, x: f32, y: f32) -> u64 {
+    match s.left_top_pos() {
+        PosAnswer::Is(p) => is_at(p, x, y),
         PosAnswer::Refused(n) => n,
     }
 }
 
-// Whether the right bottom is at x on both axes.
-fn right_bottom(s: AreaState, x: f32) -> u64 {
+// Whether the right bottom is at (x, y).
+fn right_bottom(s: AreaState, x: f32, y: f32) -> u64 {
     match s.rect() {
         RectAnswer::Is(r) => {
-            if r.max.x == x {
-                if r.max.y == x {
-                    return OK;
-                }
-            }
-            ELSEWHERE
+            let max = r.max;
+            is_at(max, x, y)
         }
         RectAnswer::Refused(n) => n,
     }
 }
 
-// Whether the left top is at x after it was set there.
-fn moved(s: AreaState, x: f32) -> u64 {
-    match s.set_left_top_pos(Pos2 { x: x, y: x }) {
-        StateAnswer::Is(t) => left_top(t, x),
+// Whether the left top is at (x, y) after it was set there.
+fn moved(s: AreaState, x: f32, y: f32) -> u64 {
+    match s.set_left_top_pos(Pos2 { x: x, y: y }) {
+        StateAnswer::Is(t) => left_top(t, x, y),
         StateAnswer::Refused(n) => n,
     }
 }
@@ -165,51 +164,58 @@ fn moved(s: AreaState, x: f32) -> u64 {
 fn areas() {
     say(
         b"area at 10, middle, size 3/32: 9.96875",
-        left_top(square(10.0, 1, 0.09375), 9.96875),
+        left_top(area_at(10.0, 1, 0.09375, 3.0), 9.96875, 2.0),
     );
     say(
         b"area at -10, middle, size 3/32: -10.0625",
-        left_top(square(-10.0, 1, 0.09375), -10.0625),
+        left_top(area_at(-10.0, 1, 0.09375, 3.0), -10.0625, 2.0),
     );
     say(
         b"area with pivot 3",
-        left_top(square(10.0, 3, 0.09375), 0.0),
+        left_top(area_at(10.0, 3, 0.09375, 3.0), 0.0, 0.0),
     );
     say(
         b"area with pivot 2^64 - 1",
-        left_top(square(10.0, 18446744073709551615, 0.09375), 0.0),
+        left_top(area_at(10.0, 18446744073709551615, 0.09375, 3.0), 0.0, 0.0),
     );
     say(
         b"area with pivot 3 and size -1",
-        left_top(square(10.0, 3, -1.0), 0.0),
+        left_top(area_at(10.0, 3, -1.0, 3.0), 0.0, 0.0),
     );
     say(
         b"area with size -1",
-        right_bottom(square(10.0, 2, -1.0), 0.0),
+        right_bottom(area_at(10.0, 2, -1.0, 3.0), 0.0, 0.0),
     );
     say(
-        b"area at 32768, high, size 16384: right 32768",
-        right_bottom(square(32768.0, 2, 16384.0), 32768.0),
+        b"area with size -1 at 1/128",
+        right_bottom(area_at(10.0, 2, -1.0, 0.0078125), 0.0, 0.0),
+    );
+}
+
+fn wide_areas() {
+    say(
+        b"area at 32768, low, size 16384: right 49152",
+        right_bottom(area_at(32768.0, 0, 16384.0, -32768.0), 49152.0, -32768.0),
     );
     say(
         b"area at -32768, high, size 16384: left -49152",
-        left_top(square(-32768.0, 2, 16384.0), -49152.0),
+        left_top(area_at(-32768.0, 2, 16384.0, 0.0), -49152.0, -1.0),
     );
-    say(b"new area at 0", left_top(AreaState::new(), 0.0));
+    say(b"new area at 0", left_top(AreaState::new(), 0.0, 0.0));
 }
 
 fn moves() {
     say(
-        b"area moved to 7.03125",
-        moved(square(10.0, 1, 0.09375), 7.03125),
+        b"area moved to 7.03125, -2",
+        moved(area_at(10.0, 1, 0.09375, 3.0), 7.03125, -2.0),
     );
     say(
-        b"area moved to 16384.03125",
-        moved(square(10.0, 1, 0.09375), 16384.03125),
+        b"area moved to 16384.03125, 0",
+        moved(area_at(10.0, 1, 0.09375, 3.0), 16384.03125, 0.0),
     );
     say(
-        b"area at NaN moved to 1",
-        moved(square(0.0 / 0.0, 1, 1.0), 1.0),
+        b"area at NaN moved to 1, 1",
+        moved(area_at(0.0 / 0.0, 1, 1.0, 3.0), 1.0, 1.0),
     );
 }
 
@@ -260,6 +266,7 @@ fn main() {
     sizes();
     rects();
     areas();
+    wide_areas();
     moves();
     keys();
 }

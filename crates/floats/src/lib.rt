@@ -1,5 +1,5 @@
-// f32 as whole numbers of steps: sums, differences, products, halves, the order and the choice of numbers on a grid are exact,
-// and are those of the whole numbers. Each law is the contract of an empty function; there is nothing to run.
+// f32 as whole numbers of steps: sums, differences, products, halves and the order of numbers on a grid are exact, and are those of
+// the whole numbers. Each law is the contract of an empty function; there is nothing to run.
 ghost use mathlib.Core.Path.{_≡_};
 ghost use Prim.Native.Nat.{ℕ, _+_, _*_, _^_, _≤_, _<_};
 ghost use lib.IntN.{ℤ, natAbs, _+ℤ_, _-ℤ_, _*ℤ_};

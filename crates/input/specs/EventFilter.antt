@@ -1,4 +1,4 @@
--- EventFilter of data/input/event_filter.rs (lines 11 to 64 of the Rust). Definitions only.
+-- EventFilter of data/input/event_filter.rs (lines 11 to 63 of the Rust). Definitions only.
 use Prim.Native.Nat.{ℕ}
 use mathlib.Core.Bool.{Bool, true, false, _||_, cond}
 use lib.Dec.{eqb}

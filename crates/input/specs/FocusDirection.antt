@@ -1,4 +1,4 @@
--- FocusDirection of memory/mod.rs (lines 150 to 190 of the Rust), and the match on a pressed key in Focus::begin_pass (lines 590 to 607). Definitions only.
+-- FocusDirection of memory/mod.rs (lines 150 to 184 of the Rust), and the match on a pressed key in Focus::begin_pass (lines 589 to 604). Definitions only.
 use Prim.Native.Nat.{ℕ}
 use mathlib.Core.Bool.{Bool, not, _&&_, _||_, cond}
 use lib.Dec.{eqb}

@@ -1,4 +1,4 @@
--- The keys that move the focus, numbered as data/key.rs declares them (lines 7 to 17 of the Rust). Definitions only.
+-- The keys that move the focus, numbered as data/key.rs declares them (lines 7 to 16 of the Rust). Definitions only.
 use Prim.Native.Nat.{ℕ}
 
 abbrev pub arrowDown : ℕ

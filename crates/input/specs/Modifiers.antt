@@ -1,4 +1,4 @@
--- Modifiers of data/input/modifiers.rs (lines 19 to 40, 146 to 168 of the Rust), as document 01 numbers them: alt 1, ctrl 2, shift 4, mac_cmd 8, command 16.
+-- Modifiers of data/input/modifiers.rs (lines 19 to 38 and 149 to 168 of the Rust), as document 01 numbers them: alt 1, ctrl 2, shift 4, mac_cmd 8, command 16.
 -- Definitions only.
 use Prim.Native.Nat.{ℕ, _/_, _%_}
 use mathlib.Core.Bool.{Bool, not, _&&_, _||_}

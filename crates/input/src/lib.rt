@@ -1,5 +1,5 @@
 // The panel's input: egui's data/input (events, modifiers, the event filter), its key numbers, and what a key does to the focus.
-// Codes of any size are taken; those past the last of their kind are refused.
+// `matches` and `Event::refusal` refuse codes past the last of their kind; the functions on numbers below them are leaves, total for any number.
 ghost use mathlib.Core.Path.{_≡_};
 ghost use mathlib.Core.Bool.{cond};
 ghost use Rattle.input.specs.Event.{eventRefusal};
@@ -22,8 +22,6 @@ pub const LEFT: u64 = 3;
 pub const PREVIOUS: u64 = 4;
 
 pub const NEXT: u64 = 5;
-
-pub const NO_DIRECTION: u64 = 6;
 
 pub enum Event {
     Key {

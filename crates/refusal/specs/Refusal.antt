@@ -11,35 +11,35 @@ none = 0
 abbrev pub zeroId : ℕ
 zeroId = 1
 
--- a code past the last one of its kind
+-- a code passes the last of its kind
 abbrev pub badCode : ℕ
 badCode = 2
 
--- a corner, size or pivot position not finite, off the grid or past its bounds
+-- a number of the geometry is on no step of its grid, or outside its range
 abbrev pub offGrid : ℕ
 offGrid = 3
 
--- a rectangle's high corner below its low one, or a negative size
+-- corners or a size are the wrong way round
 abbrev pub reversed : ℕ
 reversed = 4
 
--- a list too long, or one id twice among the used entries
+-- a list is too long, or names an id twice
 abbrev pub badList : ℕ
 badList = 5
 
--- no place left in a table
+-- a table has no place left
 abbrev pub full : ℕ
 full = 6
 
--- a registry call's layer differs from the record's
+-- a widget's record is of another layer than the call
 abbrev pub otherLayer : ℕ
 otherLayer = 7
 
--- a sublayer pair of unequal Order, or of a layer with itself
+-- parent and child cannot be a pair: their Orders differ, or they are one layer
 abbrev pub badPair : ℕ
 badPair = 8
 
--- the child has another parent this pass or is itself a parent, or the parent is a child
+-- the pair does not fit the pairs of this pass: a second parent, or a third level
 abbrev pub badFamily : ℕ
 badFamily = 9
 

@@ -1,4 +1,5 @@
--- The starred panel situations of document 01 as one table: each line is what goes in and what must come out. Definitions only.
+-- Document 01's starred panel situations as one table, those that the crates so far can state: each line is what goes in and what must come out.
+-- Definitions only.
 use Prim.Native.Nat.{ℕ}
 use mathlib.Core.Bool.{Bool, true, false, _&&_, Bool·beq}
 use mathlib.Core.List.{List, [], _∷_}
@@ -27,39 +28,38 @@ abbrev pub same : Float → Float → Bool
 same x y = eqb (toBits binary32 x) (toBits binary32 y)
 
 pub data Situation : Type 0 where
-  -- an area's pivot position, pivot code and size on both axes, and where its left top is on both
-  leftTopAt : Float → ℕ → Float → Float → Situation
+  -- an area's position, pivot code and size on the x axis, the same on the y axis, and where its left top is
+  leftTopAt : Float → ℕ → Float → Float → ℕ → Float → Float → Float → Situation
   -- a key pressed with all filters off, and whether the filter matches
   keyMatches : ℕ → Bool → Situation
 
-abbrev pub squareArea : Float → ℕ → Float → AreaState
-squareArea position pivot size = record { «pivot_pos» = PivotPos.At position position; pivot = record { x = pivot; y = pivot }; size = Size.Of size size; interactable = true }
+abbrev pub areaAt : Float → ℕ → Float → Float → ℕ → Float → AreaState
+areaAt px fx w py fy h = record { «pivot_pos» = PivotPos.At px py; pivot = record { x = fx; y = fy }; size = Size.Of w h; interactable = true }
 
-abbrev pub isAt : Float → PosAnswer → Bool
-isAt x (PosAnswer.Is p) = same (p .x) x && same (p .y) x
-isAt x (PosAnswer.Refused n) = false
+abbrev pub isAt : Float → Float → PosAnswer → Bool
+isAt x y (PosAnswer.Is p) = same (p .x) x && same (p .y) y
+isAt x y (PosAnswer.Refused n) = false
 
 abbrev pub isMatched : Bool → Matched → Bool
 isMatched b (Matched.Is r) = Bool·beq b r
 isMatched b (Matched.Refused n) = false
 
 unfoldable pub holds : Situation → Bool
-holds (leftTopAt position pivot size at) = isAt at (posAnswer (stateRefusal (squareArea position pivot size)) (leftTop (squareArea position pivot size)))
+holds (leftTopAt px fx w py fy h x y) = isAt x y (posAnswer (stateRefusal (areaAt px fx w py fy h)) (leftTop (areaAt px fx w py fy h)))
 holds (keyMatches key b) = isMatched b (matchedAnswer (eventRefusal (Key key true false 0)) (matchesOf defaultFilter (Key key true false 0)))
 
 unfoldable pub allHold : List Situation → Bool
 allHold [] = true
 allHold (s ∷ rest) = holds s && allHold rest
 
--- the table
+-- the table. An area's situation is that of its first axis; the second is there to tell the axes apart
 abbrev pub situations : List Situation
 situations =
-    -- pivot position 10, middle, size 3/32: 9.96875
-    leftTopAt (plus 10 1) 1 (plus 3 32) (plus 996875 100000)
-    -- position -10: -10.0625
-    ∷ leftTopAt (minus 10 1) 1 (plus 3 32) (minus 100625 10000)
-    -- key 144 with all filters off: matches
+    -- at 10 by its middle, 3/32 wide: 9.96875
+    leftTopAt (plus 10 1) 1 (plus 3 32) (plus 7 1) 0 (plus 5 1) (plus 996875 100000) (plus 7 1)
+    -- at -10: -10.0625
+    ∷ leftTopAt (minus 10 1) 1 (plus 3 32) (plus 7 1) 2 (plus 5 1) (minus 100625 10000) (plus 2 1)
+    -- the last key passes with every filter off, Tab does not
     ∷ keyMatches 144 true
-    -- key 5: does not
     ∷ keyMatches 5 false
     ∷ []

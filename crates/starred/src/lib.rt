@@ -1,4 +1,4 @@
-// The starred panel situations of document 01, proved together as one table. There is nothing to run.
+// Document 01's starred panel situations, proved together as one table that grows with the crates. There is nothing to run.
 ghost use mathlib.Core.Path.{_≡_};
 ghost use mathlib.Core.Bool.{true};
 ghost use Rattle.starred.specs.Starred.{allHold, situations};
