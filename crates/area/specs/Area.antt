@@ -5,6 +5,7 @@ use mathlib.Core.Bool.{true}
 use lib.Ieee.{Float, binary32, add, sub, mul, ofBits}
 use Rattle.refusal.specs.Refusal.{lowest, codeRefusal, answered}
 use Rattle.refusal.specs.Limits.{lastPivot}
+use Rattle.floats.specs.Count.{half}
 use Rattle.emath.specs.declared.Pos2.{Pos2}
 use Rattle.emath.specs.declared.Vec2.{Vec2}
 use Rattle.emath.specs.declared.Rect.{Rect}
@@ -39,7 +40,7 @@ extentOf (Size.Of x y) = record { x = x; y = y }
 -- Align::to_factor by its code: 0 low, 1 middle, 2 high. A code past 2 stands for 2
 unfoldable pub toFactor : ℕ → Float
 toFactor zero = nil
-toFactor (suc zero) = ofBits binary32 0x3f00_0000
+toFactor (suc zero) = half
 toFactor (suc (suc n)) = ofBits binary32 0x3f80_0000
 
 -- AreaState::default()

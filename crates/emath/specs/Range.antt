@@ -1,6 +1,7 @@
 -- emath's range.rs, and f32::min and f32::max, in IEEE 754. Definitions only.
 use mathlib.Core.Bool.{_||_, cond}
-use lib.Ieee.{Float, binary32, isNan, add, sub, mul, lt, ofBits}
+use lib.Ieee.{Float, binary32, isNan, add, sub, mul, lt}
+use Rattle.floats.specs.Count.{half}
 use Rattle.emath.specs.declared.Rangef.{Rangef}
 
 -- the larger, and where one is NaN the other; which of two zeros comes is left open by Rust, here it is the first
@@ -16,7 +17,7 @@ spanOf r = sub binary32 (r .max) (r .min)
 
 -- 0.5 * (min + max)
 unfoldable pub centerOf : Rangef → Float
-centerOf r = mul binary32 (ofBits binary32 0x3f00_0000) (add binary32 (r .min) (r .max))
+centerOf r = mul binary32 half (add binary32 (r .min) (r .max))
 
 -- the higher low end and the lower high end
 unfoldable pub intersectionOf : Rangef → Rangef → Rangef

@@ -6,9 +6,9 @@ use mathlib.Core.Bool.{Bool, true, false}
 use lib.IntN.{ℤ, pos, negsuc, negℤ, natAbs, _*ℤ_}
 use lib.Dec.{lit<}
 use lib.Pow.{pow-pos, pow-add}
-use lib.Ieee.{Float, binary32, round, mul, div, unlike}
+use lib.Ieee.{Float, binary32, round, mul, div, unlike, ofBits}
 use lib.Ieee.Scale.{round-same}
-use Rattle.floats.specs.Count.{signed, at, countOf}
+use Rattle.floats.specs.Count.{signed, at, countOf, half}
 use Rattle.floats.proofs.Value.{mul-at, div-at, rescaled}
 use Rattle.floats.proofs.Counts.{value-count, count-value, round-count, sized}
 
@@ -53,6 +53,13 @@ mul-count d e D x y a b p q h =
     ∙ ap (λ (c : ℕ). round binary32 (unlike (v .sign) (w .sign)) (v .steps * w .steps) c) (sym (pow-add 2 d e)))
     ∙ round-count (unlike (v .sign) (w .sign)) (v .steps * w .steps) (d + e) D small
     ∙ ap at (signed-product (v .sign) (w .sign) (v .steps) (w .steps) ∙ λ i. sym (v .is) i *ℤ sym (w .is) i)
+
+half-is : countOf 2 half ≡ at (pos 1)
+unfolding countOf ofBits
+half-is = refl
+
+pub half-count : (d : ℕ) → 1 + d ≤ 149 → (x : Float) (a : ℤ) → countOf (2 ^ d) x ≡ at a → natAbs a < 2 ^ 24 → countOf (2 ^ (1 + d)) (mul binary32 half x) ≡ at a
+half-count d D x a p h = mul-count 1 d D half x (pos 1) a half-is p (subst (λ (n : ℕ). n < 2 ^ 24) (sym (one-mul (natAbs a))) h) ∙ ap at (one-times a)
 
 -- divided by 1 / 2 ^ k: as many steps, each 2 ^ k times as long
 pub div-count : (d k : ℕ) → d ≤ 149 → (x y : Float) (a : ℤ) → countOf (2 ^ (d + k)) x ≡ at a → countOf (2 ^ k) y ≡ at (pos 1) → natAbs a < 2 ^ 24

@@ -3,7 +3,7 @@ use Prim.Native.Nat.{ℕ, _*_, _/_, _%_}
 use mathlib.Core.Bool.{Bool, true, false, cond}
 use lib.IntN.{ℤ, pos, negℤ}
 use lib.Dec.{eqb}
-use lib.Ieee.{Float, nan, inf, fin, up, down}
+use lib.Ieee.{Float, nan, inf, fin, up, down, binary32, ofBits}
 
 -- n, below zero where s is true
 abbrev pub signed : Bool → ℕ → ℤ
@@ -20,3 +20,7 @@ unfoldable pub countOf : ℕ → Float → Count
 countOf c nan = off
 countOf c (inf s) = off
 countOf c (fin s m e) = cond (eqb (m * up e * c % down e) 0) (at (signed s (m * up e * c / down e))) off
+
+-- 0.5
+abbrev pub half : Float
+half = ofBits binary32 0x3f00_0000

@@ -5,7 +5,7 @@ ghost use Prim.Native.Nat.{ℕ, _+_, _*_, _^_, _≤_, _<_};
 ghost use lib.IntN.{ℤ, natAbs, _+ℤ_, _-ℤ_, _*ℤ_};
 ghost use lib.Signed.{ltZ, leZ};
 ghost use lib.Ieee.{Float, binary32, add, sub, mul, lt, le};
-ghost use Rattle.floats.specs.Count.{at, countOf};
+ghost use Rattle.floats.specs.Count.{at, countOf, half};
 
 pub fn sum_on_grid()
     ensures { λ _. ⌜ ((d : ℕ) → d ≤ 149 → (x y : Float) (a b : ℤ) → countOf (2 ^ d) x ≡ at a → countOf (2 ^ d) y ≡ at b
@@ -17,10 +17,15 @@ pub fn difference_on_grid()
         → natAbs (a -ℤ b) < 2 ^ 24 → countOf (2 ^ d) (sub binary32 x y) ≡ at (a -ℤ b)) ⌝ }
 {}
 
-// Half of a number is its product with 1 step of 1/2.
 pub fn product_on_grid()
     ensures { λ _. ⌜ ((d e : ℕ) → d + e ≤ 149 → (x y : Float) (a b : ℤ) → countOf (2 ^ d) x ≡ at a → countOf (2 ^ e) y ≡ at b
         → natAbs a * natAbs b < 2 ^ 24 → countOf (2 ^ (d + e)) (mul binary32 x y) ≡ at (a *ℤ b)) ⌝ }
+{}
+
+// 0.5 times a number: as many steps, each half as long.
+pub fn half_on_grid()
+    ensures { λ _. ⌜ ((d : ℕ) → 1 + d ≤ 149 → (x : Float) (a : ℤ) → countOf (2 ^ d) x ≡ at a → natAbs a < 2 ^ 24
+        → countOf (2 ^ (1 + d)) (mul binary32 half x) ≡ at a) ⌝ }
 {}
 
 pub fn order_on_grid()
