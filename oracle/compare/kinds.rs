@@ -1,0 +1,128 @@
+//! The kinds of lists: random, around limits and refusals, and realistic ones. Each list begins with `new` and ends with `state`.
+use crate::close_calls;
+use crate::draw::Draw;
+use crate::pages;
+use crate::rng::Rng;
+use crate::tables;
+
+type Kind = fn(&mut Draw) -> Vec<String>;
+
+/// Each kind with its malice.
+pub const KINDS: &[(&str, usize, Kind)] = &[
+    ("leaves", 4, leaves),
+    ("hostile leaves", 25, leaves),
+    ("any calls", 2, any_calls),
+    ("refusals", 15, any_calls),
+    ("malformed", 5, malformed),
+    ("limits", 0, tables::limits),
+    ("registry", 1, tables::registry),
+    ("areas", 1, tables::areas),
+    ("popups", 1, tables::popups),
+    ("ring", 0, pages::ring),
+    ("passes", 1, pages::passes),
+    ("filters", 0, pages::filters),
+    ("arrows", 0, pages::arrows),
+    ("close calls", 0, close_calls::close_calls),
+    ("modal", 1, pages::modal),
+];
+
+pub struct List {
+    pub number: u64,
+    pub kind: &'static str,
+    pub lines: Vec<String>,
+}
+
+pub fn list(seed: u64, number: u64) -> List {
+    let (kind, malice, make) = KINDS[(number % KINDS.len() as u64) as usize];
+    let rng = Rng::of(seed, number);
+    let mut draw = Draw { rng, malice };
+    let mut lines = vec!["new".to_owned()];
+    lines.append(&mut make(&mut draw));
+    lines.push("state".to_owned());
+    List {
+        number,
+        kind,
+        lines,
+    }
+}
+
+/// The calls that need no state.
+fn leaves(d: &mut Draw) -> Vec<String> {
+    let calls = ["left_top_pos", "rect", "set_left_top_pos", "matches"];
+    let count = 20 + d.rng.below(30);
+    (0..count)
+        .map(|_| {
+            let name = d.rng.pick(&calls);
+            d.call(name)
+        })
+        .collect()
+}
+
+fn any_calls(d: &mut Draw) -> Vec<String> {
+    let count = 5 + d.rng.below(60);
+    let mut lines = Vec::new();
+    for _ in 0..count {
+        lines.push(d.any_call());
+        if d.rng.percent(20) {
+            lines.push("state".to_owned());
+        }
+    }
+    lines
+}
+
+fn malformed(d: &mut Draw) -> Vec<String> {
+    let count = 5 + d.rng.below(40);
+    (0..count)
+        .map(|_| {
+            let line = d.any_call();
+            if d.rng.percent(70) {
+                spoil(d, &line)
+            } else {
+                line
+            }
+        })
+        .collect()
+}
+
+/// A line with one thing wrong, or rarely still right.
+fn spoil(d: &mut Draw, line: &str) -> String {
+    let mut words: Vec<String> = line.split(' ').map(str::to_owned).collect();
+    let place = d.rng.below(words.len());
+    let odd = [
+        "",
+        "00",
+        "01",
+        "+1",
+        "-1",
+        "-0",
+        "nan",
+        "inf",
+        "1.0",
+        "2",
+        "1e3",
+        "x",
+        "ok",
+        "0x1",
+        "k",
+        "o",
+        "4294967295",
+        "4294967296",
+        "18446744073709551615",
+        "18446744073709551616",
+        "99999999999999999999",
+        "\t",
+        "1\r",
+        "\u{e9}",
+    ];
+    let word = d.rng.pick(&odd).to_owned();
+    match d.rng.below(8) {
+        0 => words.insert(place, word),
+        1 => drop(words.remove(place)),
+        2 => words.push(word),
+        3 => words[place] = words[place].to_uppercase(),
+        4 => words[place] = format!("0{}", words[place]),
+        5 => words[place].push_str(&word),
+        _ => words[place] = word,
+    }
+    words.join(" ")
+}

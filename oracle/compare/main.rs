@@ -1,0 +1,160 @@
+//! Compares two programs that answer the replay protocol on generated lists of calls, reports the first difference and shrinks it.
+//!
+//!     compare lists  N SEED SECONDS ORACLE PORT DIFFERENCES
+//!                                                     N lists, or as many as go into the seconds
+//!     compare file   FILE ORACLE PORT DIFFERENCES     one stored list
+//!     compare sample N SEED DIFFERENCES               prints the lines of N lists whose calls are ported
+//!
+//! ORACLE and PORT may have arguments, after spaces. DIFFERENCES is docs/DIFFERENCES.md, which names the calls not ported yet.
+mod close_calls;
+mod draw;
+mod kinds;
+mod pages;
+mod programs;
+mod rng;
+mod shrink;
+mod tables;
+mod tally;
+
+use kinds::List;
+use programs::Pair;
+use std::collections::BTreeSet;
+use std::time::{Duration, Instant};
+use std::{env, fs, process};
+use tally::Tally;
+
+/// Lists are sent in batches of about so many bytes: one run of a program answers many lists, each from `new` on.
+const BATCH: usize = 1 << 20;
+
+fn main() {
+    let args: Vec<String> = env::args().skip(1).collect();
+    let words: Vec<&str> = args.iter().map(String::as_str).collect();
+    match words[..] {
+        ["lists", n, seed, seconds, oracle, port, known] => {
+            let until = Instant::now() + Duration::from_secs(number(seconds));
+            compare_lists(number(n), number(seed), until, &pair(oracle, port, known))
+        }
+        ["file", file, oracle, port, known] => compare_file(file, &pair(oracle, port, known)),
+        ["sample", n, seed, known] => sample(number(n), number(seed), &pair("", "", known)),
+        _ => stop("usage: see oracle/README.md"),
+    }
+}
+
+fn stop(why: &str) -> ! {
+    eprintln!("compare: {why}");
+    process::exit(2)
+}
+
+fn number(word: &str) -> u64 {
+    word.parse()
+        .unwrap_or_else(|_| stop(&format!("'{word}' is no number")))
+}
+
+fn pair(oracle: &str, port: &str, known: &str) -> Pair {
+    let words = |program: &str| program.split(' ').map(str::to_owned).collect();
+    Pair {
+        oracle: words(oracle),
+        port: words(port),
+        unported: unported(&read(known)),
+    }
+}
+
+fn read(file: &str) -> String {
+    fs::read_to_string(file).unwrap_or_else(|e| stop(&format!("{file}: {e}")))
+}
+
+/// The words of the block after the heading 'Not ported yet', or none without such a heading.
+fn unported(text: &str) -> BTreeSet<String> {
+    let after = text.split("## Not ported yet").nth(1).unwrap_or_default();
+    let block = after.split("```").nth(1).unwrap_or_default();
+    block.split_whitespace().map(str::to_owned).collect()
+}
+
+fn compare_lists(count: u64, seed: u64, until: Instant, pair: &Pair) {
+    let mut tally = Tally::default();
+    let mut next = 0;
+    while next < count && Instant::now() < until {
+        let batch = batch(seed, next, count);
+        compare_batch(seed, &batch, pair, &mut tally);
+        next += batch.len() as u64;
+    }
+    print!("{}", tally.report());
+    println!("{next} lists from seed {seed}: no difference");
+}
+
+/// The lists from this number on that make up a batch.
+fn batch(seed: u64, first: u64, count: u64) -> Vec<List> {
+    let mut size = 0;
+    let lists = (first..count).map(|number| kinds::list(seed, number));
+    lists
+        .take_while(|list| {
+            let room = size < BATCH;
+            size += list.lines.iter().map(String::len).sum::<usize>();
+            room
+        })
+        .collect()
+}
+
+fn compare_batch(seed: u64, batch: &[List], pair: &Pair, tally: &mut Tally) {
+    let lines: Vec<String> = batch.iter().flat_map(|list| list.lines.clone()).collect();
+    let (oracle, port) = pair.answers(&lines);
+    let mut place = 0;
+    for list in batch {
+        for line in &list.lines {
+            let (a, b) = (oracle.get(place), port.get(place));
+            let same = a.zip(b).is_some_and(|(a, b)| pair.agree(line, a, b));
+            if !same {
+                println!("list {} of seed {seed} ({})", list.number, list.kind);
+                report(&list.lines, pair);
+            }
+            tally.count(list.kind, &oracle[place], pair.is_unported(line));
+            place += 1;
+        }
+    }
+    if port.len() != place {
+        stop("the port answers more lines than it was asked");
+    }
+}
+
+fn compare_file(file: &str, pair: &Pair) {
+    let text = read(file);
+    let lines: Vec<String> = text.lines().map(str::to_owned).collect();
+    match pair.first_difference(&lines) {
+        Some(_) => report(&lines, pair),
+        None => println!("{file}: {} lines, no difference", lines.len()),
+    }
+}
+
+/// Prints the first difference and the shrunk list with both programs' answers, and stops.
+fn report(lines: &[String], pair: &Pair) -> ! {
+    let Some(first) = pair.first_difference(lines) else {
+        println!("differs only after the lists before it: the state of a program outlives 'new'");
+        process::exit(1);
+    };
+    println!(
+        "first difference, line {}: {}",
+        first.place + 1,
+        lines[first.place]
+    );
+    println!("  oracle {}\n  port   {}", first.oracle, first.port);
+    let least = shrink::shrink(pair, lines.to_vec());
+    let (oracle, port) = pair.answers(&least);
+    println!("shrunk to {} lines:", least.len());
+    for (i, line) in least.iter().enumerate() {
+        let missing = String::new();
+        let a = oracle.get(i).unwrap_or(&missing);
+        let b = port.get(i).unwrap_or(&missing);
+        println!("  {line}\n    oracle {a}\n    port   {b}");
+    }
+    process::exit(1)
+}
+
+fn sample(count: u64, seed: u64, pair: &Pair) {
+    for number in 0..count {
+        for line in kinds::list(seed, number).lines {
+            if !pair.is_unported(&line) {
+                println!("{line}");
+            }
+        }
+    }
+}

@@ -1,0 +1,101 @@
+//! The whole state of `Memory`, for the line `state` and for the refusals that ask how full a table is. Private fields are read here.
+use super::{Areas, Focus, FocusWidget, Memory};
+use crate::line::Line;
+use crate::{Id, LayerId};
+use std::collections::BTreeMap;
+
+impl Memory {
+    /// The focus record, fresh before the first begin.
+    fn focus_record(&self) -> Focus {
+        self.focus().cloned().unwrap_or_default()
+    }
+
+    pub fn is_cached(&self, id: Id) -> bool {
+        self.focus()
+            .is_some_and(|f| f.focus_widgets_cache.contains_key(&id))
+    }
+
+    pub fn cached(&self) -> usize {
+        self.focus().map_or(0, |f| f.focus_widgets_cache.len())
+    }
+
+    pub fn show(&self, line: Line) -> Line {
+        let line = self.focus_record().show(line);
+        let line = self.areas().show(line);
+        let popup = self.popups.get(&self.viewport_id).copied();
+        line.word("popup")
+            .maybe(popup, |line, popup| {
+                line.id(popup.id)
+                    .maybe(popup.pos, Line::pos)
+                    .flag(popup.open_this_frame)
+            })
+            .word("flags")
+            .flag(self.requested_interrupt_ime)
+            .flag(self.everything_is_visible)
+    }
+}
+
+impl Focus {
+    fn show(self, line: Line) -> Line {
+        let cache: BTreeMap<u64, _> = self
+            .focus_widgets_cache
+            .iter()
+            .map(|(id, rect)| (id.value(), *rect))
+            .collect();
+        line.word("focus")
+            .maybe(self.focused_widget, Line::focused)
+            .maybe(self.id_previous_frame, Line::id)
+            .maybe(self.id_two_frames_ago, Line::id)
+            .maybe(self.id_next_frame, Line::id)
+            .flag(self.give_to_next)
+            .maybe(self.last_interested, Line::id)
+            .word(self.focus_direction as u64)
+            .maybe(self.top_modal_layer, Line::layer)
+            .maybe(self.top_modal_layer_current_frame, Line::layer)
+            .word("cache")
+            .list(cache.into_iter().collect(), |line, (id, rect)| {
+                line.word(id).rect(rect)
+            })
+    }
+}
+
+impl Line {
+    fn focused(self, widget: FocusWidget) -> Self {
+        self.id(widget.id)
+            .flag(widget.filter.tab)
+            .flag(widget.filter.horizontal_arrows)
+            .flag(widget.filter.vertical_arrows)
+            .flag(widget.filter.escape)
+    }
+}
+
+impl Areas {
+    pub fn is_parent(&self, layer: LayerId) -> bool {
+        self.child_layers(layer).next().is_some()
+    }
+
+    fn show(&self, line: Line) -> Line {
+        let states: BTreeMap<u64, _> = self
+            .areas
+            .iter()
+            .map(|(id, state)| (id.value(), *state))
+            .collect();
+        line.word("stack")
+            .list(self.order.clone(), |line, layer| {
+                self.show_layer(line, layer)
+            })
+            .word("areas")
+            .list(states.into_iter().collect(), |line, (id, state)| {
+                line.word(id).state(state)
+            })
+    }
+
+    fn show_layer(&self, line: Line, layer: LayerId) -> Line {
+        line.layer(layer)
+            .maybe(self.order_map.get(&layer), Line::word)
+            .flag(self.visible_areas_last_frame.contains(&layer))
+            .flag(self.visible_areas_current_frame.contains(&layer))
+            .flag(self.wants_to_be_on_top.contains(&layer))
+            .maybe(self.parent_layer(layer), Line::layer)
+    }
+}

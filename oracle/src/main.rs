@@ -1,0 +1,69 @@
+//! Answers the replay protocol (../shared/REPLAY.md) from egui's own text.
+//!
+//!     oracle             answers standard input
+//!     oracle falling     the same, with egui's maps walked from the largest id down: where that changes an answer, egui leaves it open
+//!     oracle hypot N     asks of N differences whether hypot gives the f32 nearest the root
+#![allow(dead_code, unexpected_cfgs, unused_imports)]
+extern crate alloc;
+
+mod answers;
+mod convert;
+mod egui;
+mod emath;
+mod hypot;
+mod line;
+mod refusals;
+#[path = "../compare/rng.rs"]
+mod rng;
+mod simple;
+mod stand_ins;
+mod words;
+
+// The names by which egui's text reaches its own items.
+use egui::{area, memory, widget_rect};
+use egui::{
+    area::AreaState, event::Event, event_filter::EventFilter, key::Key, layers::LayerId,
+    layers::Order, memory::Memory, modifiers::Modifiers, sense::Sense,
+};
+use stand_ins::{Id, MINUS_CHAR_STR, cache, util};
+
+mod data {
+    pub mod input {
+        pub use crate::stand_ins::RawInput;
+    }
+}
+
+use std::io::{BufRead, BufWriter, Write};
+use std::sync::atomic::Ordering;
+
+fn main() -> std::io::Result<()> {
+    let args: Vec<String> = std::env::args().skip(1).collect();
+    let words: Vec<&str> = args.iter().map(String::as_str).collect();
+    match words[..] {
+        [] => answer_all(),
+        ["falling"] => {
+            stand_ins::FALLING.store(true, Ordering::Relaxed);
+            answer_all()
+        }
+        ["hypot", count] => ask_hypot(count.parse().expect("a number")),
+        _ => panic!("usage: oracle [falling | hypot N]"),
+    }
+}
+
+fn answer_all() -> std::io::Result<()> {
+    let mut state = answers::State::default();
+    let mut out = BufWriter::new(std::io::stdout().lock());
+    for line in std::io::stdin().lock().split(b'\n') {
+        writeln!(out, "{}", answers::answer(&mut state, &line?))?;
+    }
+    out.flush()
+}
+
+fn ask_hypot(count: u64) -> std::io::Result<()> {
+    if let Some((x, y)) = hypot::first_other(count) {
+        println!("hypot({x}, {y}) is not the f32 nearest the root");
+        std::process::exit(1);
+    }
+    println!("{count} differences on the grid: hypot is the f32 nearest the root");
+    Ok(())
+}
