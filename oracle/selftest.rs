@@ -110,7 +110,11 @@ fn compile(b: &Break, out: &Path, worker: usize) -> Result<String, String> {
     let copy = out.join(format!("broken{worker}"));
     fs::remove_dir_all(&copy).ok();
     fs::create_dir_all(&copy).map_err(|e| e.to_string())?;
-    for from in [out.join("egui"), "oracle/src".into()] {
+    for from in [
+        out.join("egui"),
+        "oracle/src".into(),
+        "oracle/compare".into(),
+    ] {
         run(Command::new("cp").arg("-r").arg(from).arg(&copy))?;
     }
     let file = copy.join(b.file);
