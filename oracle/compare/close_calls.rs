@@ -1,5 +1,5 @@
-//! Searches that hang on the last bit: two fields of nearly equal score, or one field at the edge of the cone. Fields are single points,
-//! so that the difference to a field is the difference of the points.
+//! Searches that hang on the last bit: two fields of nearly equal score, one field at the edge of the cone, two spans that overlap by
+//! half. In the first two, fields are single points, so that the difference to a field is the difference of the points.
 use crate::draw::{Draw, steps};
 
 /// A difference in 32nds: along the arrow, and across it.
@@ -10,16 +10,22 @@ const RIGHT: u64 = 2;
 pub fn close_calls(d: &mut Draw) -> Vec<String> {
     let mut lines = Vec::new();
     for _ in 0..6 {
-        let apart = if d.rng.percent(60) {
-            rivals(d)
-        } else {
-            edge(d)
-        };
         let turn = d.rng.below(4);
+        let end = match d.rng.below(10) {
+            0..5 => {
+                let apart = rivals(d);
+                end(d, turn, &apart)
+            }
+            5..8 => {
+                let apart = edge(d);
+                end(d, turn, &apart)
+            }
+            _ => overlap(d, turn),
+        };
         lines.push(format!("begin 1 k {} 1 0 0", turned_key(turn)));
         lines.extend((1..=3).map(|id| format!("interest {id} 1 7")));
         lines.push("request_focus 1".to_owned());
-        lines.push(end(d, turn, &apart));
+        lines.push(end);
         lines.push("focused".to_owned());
     }
     lines
@@ -73,6 +79,27 @@ fn edge(d: &mut Draw) -> Vec<Apart> {
     let along = d.rng.between(1, reach);
     let across = along + d.rng.pick(&[0, 0, 0, 1, -1]);
     vec![(along, across * d.rng.pick(&[1, -1]))]
+}
+
+/// A field beside another that overlaps it across the arrow by half of the smaller span, or a step more or less. Along the arrow they are
+/// so near that without an overlap the field is out of the cone.
+fn overlap(d: &mut Draw, turn: usize) -> String {
+    let span = d.rng.between(100, 400);
+    let smaller = d.rng.between(40, span);
+    let half = (smaller + d.rng.between(0, 1)) / 2 + d.rng.pick(&[0, 0, 1, -1]);
+    let low = span - half;
+    let first = [(0, 0), (8, span)];
+    let second = [(10, low), (18, low + smaller)];
+    let mut line = "end 2".to_owned();
+    for (id, corners) in [(1, first), (2, second)] {
+        let [a, b] = corners.map(|corner| turned(turn, corner));
+        let words = [a.0.min(b.0), a.1.min(b.1), a.0.max(b.0), a.1.max(b.1)].map(steps);
+        line.push_str(&format!(
+            " {id} {} {} {} {}",
+            words[0], words[1], words[2], words[3]
+        ));
+    }
+    line
 }
 
 /// The arrow's key after so many quarter turns from Right to Down.

@@ -1,9 +1,12 @@
-//! Words and lines of the protocol, drawn at random. `malice` is how many of a hundred words are drawn from outside the domain.
+//! Words and lines of the protocol, drawn at random.
 use crate::rng::Rng;
 
 pub struct Draw {
     pub rng: Rng,
+    /// How many of a hundred words are drawn from outside the domain.
     pub malice: usize,
+    /// Most ids are drawn from the first so many: the fewer, the oftener they meet.
+    pub pool: usize,
 }
 
 /// Each call with the shape of its arguments: i an id, o an Order, l a layer, d a direction, f a flag, x a float, s an area's state,
@@ -129,7 +132,7 @@ impl Draw {
         match self.rng.below(20) {
             0 => self.rng.pick(&[u64::MAX, 1 << 63, 1 << 32, 0xFFFF_FFFF]),
             1 | 2 => self.rng.below(60) as u64 + 1,
-            _ => self.rng.below(6) as u64 + 1,
+            _ => self.rng.below(self.pool) as u64 + 1,
         }
     }
 
@@ -313,33 +316,37 @@ impl Draw {
         self.counted(&all)
     }
 
+    /// A few used entries, their ids a run of numbers, or drawn with repeats.
     pub fn used(&mut self) -> String {
-        let count = self.rng.below(9);
-        let twice = self.bad();
-        self.used_of(count, twice)
-    }
-
-    /// So many used entries, their ids from a run of numbers, or drawn with repeats.
-    pub fn used_of(&mut self, count: usize, twice: bool) -> String {
-        let mut ids: Vec<u64> = (1..=count as u64).collect();
-        if twice {
+        let count = self.rng.below(9) as u64;
+        let mut ids: Vec<u64> = (1..=count).collect();
+        if self.bad() {
             ids = ids.iter().map(|_| self.id()).collect();
         }
         self.rng.shuffle(&mut ids);
+        self.used_of(&ids)
+    }
+
+    pub fn used_of(&mut self, ids: &[u64]) -> String {
         let entries = ids.iter().map(|id| format!("{id} {}", self.rect()));
         let all: Vec<String> = entries.collect();
         self.counted(&all)
     }
 
-    /// A registry call's layer and its record.
     fn record(&mut self) -> String {
+        let id = self.id();
+        self.record_of(id)
+    }
+
+    /// A registry call's layer and the record of an id.
+    pub fn record_of(&mut self, id: u64) -> String {
         let layer = self.layer();
         let of = if self.bad() {
             self.layer()
         } else {
             layer.clone()
         };
-        let (id, parent) = (self.id(), self.id());
+        let parent = self.id();
         let (rect, interact) = (self.rect(), self.rect());
         let (enabled, visible) = (self.rng.below(2), self.rng.below(2));
         let sense = self.code(7);

@@ -1,6 +1,8 @@
 //! The kinds of lists: random, around limits and refusals, and realistic ones. Each list begins with `new` and ends with `state`.
 use crate::close_calls;
 use crate::draw::Draw;
+use crate::keys;
+use crate::limits;
 use crate::pages;
 use crate::rng::Rng;
 use crate::tables;
@@ -14,13 +16,16 @@ pub const KINDS: &[(&str, usize, Kind)] = &[
     ("any calls", 2, any_calls),
     ("refusals", 15, any_calls),
     ("malformed", 5, malformed),
-    ("limits", 0, tables::limits),
+    ("limits", 0, limits::limits),
     ("registry", 1, tables::registry),
     ("areas", 1, tables::areas),
+    ("hits", 0, tables::hits),
     ("popups", 1, tables::popups),
     ("ring", 0, pages::ring),
     ("passes", 1, pages::passes),
     ("filters", 0, pages::filters),
+    ("modifiers", 0, keys::modifiers),
+    ("hand-overs", 0, keys::hand_overs),
     ("arrows", 0, pages::arrows),
     ("close calls", 0, close_calls::close_calls),
     ("modal", 1, pages::modal),
@@ -34,8 +39,9 @@ pub struct List {
 
 pub fn list(seed: u64, number: u64) -> List {
     let (kind, malice, make) = KINDS[(number % KINDS.len() as u64) as usize];
-    let rng = Rng::of(seed, number);
-    let mut draw = Draw { rng, malice };
+    let mut rng = Rng::of(seed, number);
+    let pool = rng.pick(&[2, 3, 6, 6]);
+    let mut draw = Draw { rng, malice, pool };
     let mut lines = vec!["new".to_owned()];
     lines.append(&mut make(&mut draw));
     lines.push("state".to_owned());
@@ -87,34 +93,13 @@ fn malformed(d: &mut Draw) -> Vec<String> {
 /// A line with one thing wrong, or rarely still right.
 fn spoil(d: &mut Draw, line: &str) -> String {
     let mut words: Vec<String> = line.split(' ').map(str::to_owned).collect();
+    let counted = ["begin", "end"].contains(&words[0].as_str());
+    if counted && d.rng.percent(40) {
+        words[1] = count_beside(d, &words[1]);
+        return words.join(" ");
+    }
     let place = d.rng.below(words.len());
-    let odd = [
-        "",
-        "00",
-        "01",
-        "+1",
-        "-1",
-        "-0",
-        "nan",
-        "inf",
-        "1.0",
-        "2",
-        "1e3",
-        "x",
-        "ok",
-        "0x1",
-        "k",
-        "o",
-        "4294967295",
-        "4294967296",
-        "18446744073709551615",
-        "18446744073709551616",
-        "99999999999999999999",
-        "\t",
-        "1\r",
-        "\u{e9}",
-    ];
-    let word = d.rng.pick(&odd).to_owned();
+    let word = d.rng.pick(ODD).to_owned();
     match d.rng.below(8) {
         0 => words.insert(place, word),
         1 => drop(words.remove(place)),
@@ -125,4 +110,41 @@ fn spoil(d: &mut Draw, line: &str) -> String {
         _ => words[place] = word,
     }
     words.join(" ")
+}
+
+/// Words that are none, or that only some places take.
+const ODD: &[&str] = &[
+    "",
+    "00",
+    "01",
+    "+1",
+    "-1",
+    "-0",
+    "nan",
+    "inf",
+    "1.0",
+    "2",
+    "1e3",
+    "x",
+    "ok",
+    "0x1",
+    ":",
+    "/",
+    "k",
+    "o",
+    "4294967295",
+    "4294967296",
+    "18446744073709551615",
+    "18446744073709551616",
+    "99999999999999999999",
+    "\t",
+    "1\r",
+    "\u{e9}",
+];
+
+/// A count of a list that is not its count.
+fn count_beside(d: &mut Draw, count: &str) -> String {
+    let count: u64 = count.parse().unwrap_or(0);
+    let others = [0, count + 1, count.saturating_sub(1), u64::MAX];
+    d.rng.pick(&others).to_string()
 }

@@ -1,14 +1,16 @@
 //! Compares two programs that answer the replay protocol on generated lists of calls, reports the first difference and shrinks it.
 //!
 //!     compare lists  N SEED SECONDS ORACLE PORT DIFFERENCES
-//!                                                     N lists, or as many as go into the seconds
+//!                                                     N lists, or as many as go into the seconds, but 20,000 of them in any case
 //!     compare file   FILE ORACLE PORT DIFFERENCES     one stored list
 //!     compare sample N SEED DIFFERENCES               prints the lines of N lists whose calls are ported
 //!
 //! ORACLE and PORT may have arguments, after spaces. DIFFERENCES is docs/DIFFERENCES.md, which names the calls not ported yet.
 mod close_calls;
 mod draw;
+mod keys;
 mod kinds;
+mod limits;
 mod pages;
 mod programs;
 mod rng;
@@ -26,6 +28,9 @@ use tally::Tally;
 /// Lists are sent in batches of about so many bytes: one run of a program answers many lists, each from `new` on.
 const BATCH: usize = 1 << 20;
 
+/// So many lists are compared however long they take.
+const LEAST: u64 = 20_000;
+
 fn main() {
     let args: Vec<String> = env::args().skip(1).collect();
     let words: Vec<&str> = args.iter().map(String::as_str).collect();
@@ -40,7 +45,7 @@ fn main() {
     }
 }
 
-fn stop(why: &str) -> ! {
+pub fn stop(why: &str) -> ! {
     eprintln!("compare: {why}");
     process::exit(2)
 }
@@ -73,7 +78,7 @@ fn unported(text: &str) -> BTreeSet<String> {
 fn compare_lists(count: u64, seed: u64, until: Instant, pair: &Pair) {
     let mut tally = Tally::default();
     let mut next = 0;
-    while next < count && Instant::now() < until {
+    while next < count && (next < LEAST || Instant::now() < until) {
         let batch = batch(seed, next, count);
         compare_batch(seed, &batch, pair, &mut tally);
         next += batch.len() as u64;
@@ -98,27 +103,33 @@ fn batch(seed: u64, first: u64, count: u64) -> Vec<List> {
 fn compare_batch(seed: u64, batch: &[List], pair: &Pair, tally: &mut Tally) {
     let lines: Vec<String> = batch.iter().flat_map(|list| list.lines.clone()).collect();
     let (oracle, port) = pair.answers(&lines);
-    let mut place = 0;
-    for list in batch {
-        for line in &list.lines {
-            let (a, b) = (oracle.get(place), port.get(place));
-            let same = a.zip(b).is_some_and(|(a, b)| pair.agree(line, a, b));
-            if !same {
-                println!("list {} of seed {seed} ({})", list.number, list.kind);
-                report(&list.lines, pair);
-            }
-            tally.count(list.kind, &oracle[place], pair.is_unported(line));
-            place += 1;
-        }
+    if let Some(difference) = pair.difference(&lines, &oracle, &port) {
+        let list = list_at(batch, difference.place);
+        println!("list {} of seed {seed} ({})", list.number, list.kind);
+        report(&list.lines, pair);
     }
-    if port.len() != place {
-        stop("the port answers more lines than it was asked");
+    let kinds = batch
+        .iter()
+        .flat_map(|list| list.lines.iter().map(|_| list.kind));
+    for ((kind, line), answer) in kinds.zip(&lines).zip(&oracle) {
+        tally.count(kind, answer, pair.is_unported(line));
     }
+}
+
+/// The list that the line at this place belongs to, the last one for a place after all lines.
+fn list_at(batch: &[List], place: usize) -> &List {
+    let mut before = 0;
+    let found = batch.iter().find(|list| {
+        before += list.lines.len();
+        place < before
+    });
+    found.or(batch.last()).expect("a batch has a list")
 }
 
 fn compare_file(file: &str, pair: &Pair) {
     let text = read(file);
-    let lines: Vec<String> = text.lines().map(str::to_owned).collect();
+    let text = text.strip_suffix('\n').unwrap_or(&text);
+    let lines: Vec<String> = text.split('\n').map(str::to_owned).collect();
     match pair.first_difference(&lines) {
         Some(_) => report(&lines, pair),
         None => println!("{file}: {} lines, no difference", lines.len()),
@@ -128,14 +139,14 @@ fn compare_file(file: &str, pair: &Pair) {
 /// Prints the first difference and the shrunk list with both programs' answers, and stops.
 fn report(lines: &[String], pair: &Pair) -> ! {
     let Some(first) = pair.first_difference(lines) else {
-        println!("differs only after the lists before it: the state of a program outlives 'new'");
+        println!(
+            "differs only together with the lists before it: something outlives 'new', or a program does not end well"
+        );
         process::exit(1);
     };
-    println!(
-        "first difference, line {}: {}",
-        first.place + 1,
-        lines[first.place]
-    );
+    let line = lines.get(first.place);
+    let line = line.map_or("(after the last line)", |line| line);
+    println!("first difference, line {}: {line}", first.place + 1);
     println!("  oracle {}\n  port   {}", first.oracle, first.port);
     let least = shrink::shrink(pair, lines.to_vec());
     let (oracle, port) = pair.answers(&least);

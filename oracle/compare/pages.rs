@@ -144,6 +144,12 @@ pub fn filters(d: &mut Draw) -> Vec<String> {
         pass(&mut lines, &page, &[]);
         let flags = [(); 4].map(|()| d.rng.below(2).to_string());
         lines.push(format!("set_focus_lock_filter {id} {}", flags.join(" ")));
+        if d.rng.percent(30) {
+            // A new focus, or the same anew, comes with a filter of its own.
+            let other = page[d.rng.below(count)].id;
+            let ask = d.rng.pick(&["request_focus_next_frame", "request_focus"]);
+            lines.push(format!("{ask} {other}"));
+        }
         let keys = 1 + d.rng.below(4);
         let keys: Vec<String> = (0..keys)
             .map(|_| key(d.rng.below(6) as u64, d.rng.pick(&[0, 0, 0, SHIFT])))
@@ -226,7 +232,11 @@ pub fn passes(d: &mut Draw) -> Vec<String> {
 
 /// Arrows over pages of every layout, with fields that move and vanish.
 pub fn arrows(d: &mut Draw) -> Vec<String> {
-    let count = 2 + d.rng.below(20);
+    let count = if d.rng.percent(4) {
+        60 + d.rng.below(60)
+    } else {
+        2 + d.rng.below(20)
+    };
     let mut page = page(d, count, (1, 7));
     let mut lines = Vec::new();
     pass(&mut lines, &page, &[]);

@@ -1,8 +1,11 @@
 //! The two programs under comparison, each run on a text, and how their answers are held against each other.
+use crate::stop;
 use std::collections::BTreeSet;
 use std::io::{Read, Write};
 use std::process::{Command, Stdio};
+use std::sync::mpsc;
 use std::thread;
+use std::time::Duration;
 
 pub struct Pair {
     pub oracle: Vec<String>,
@@ -29,19 +32,34 @@ impl Pair {
         })
     }
 
-    /// The first line whose answers differ.
+    /// The first line whose answers differ, asked of both programs.
     pub fn first_difference(&self, lines: &[String]) -> Option<Difference> {
         let (oracle, port) = self.answers(lines);
-        let missing = "(no answer)".to_owned();
-        (0..lines.len()).find_map(|place| {
-            let oracle = oracle.get(place).unwrap_or(&missing);
-            let port = port.get(place).unwrap_or(&missing);
-            (!self.agree(&lines[place], oracle, port)).then(|| Difference {
-                place,
-                oracle: oracle.clone(),
-                port: port.clone(),
+        self.difference(lines, &oracle, &port)
+    }
+
+    /// The first place at which these answers differ. An answer that is missing or one too many is a difference.
+    pub fn difference(
+        &self,
+        lines: &[String],
+        oracle: &[String],
+        port: &[String],
+    ) -> Option<Difference> {
+        let most = lines.len().max(oracle.len()).max(port.len());
+        let shown = |answers: &[String], place: usize| {
+            let missing = "(no answer)".to_owned();
+            answers.get(place).cloned().unwrap_or(missing)
+        };
+        (0..most)
+            .find(|&place| {
+                let three = (lines.get(place), oracle.get(place), port.get(place));
+                !matches!(three, (Some(line), Some(a), Some(b)) if self.agree(line, a, b))
             })
-        })
+            .map(|place| Difference {
+                place,
+                oracle: shown(oracle, place),
+                port: shown(port, place),
+            })
     }
 
     /// Equal answers; and `bad` of the port, and nothing else, for a call that is not ported.
@@ -59,6 +77,10 @@ impl Pair {
     }
 }
 
+/// A program that takes longer is stopped, which shows as a missing answer.
+const LIMIT: Duration = Duration::from_secs(120);
+
+/// What a program answers to a text, a line each. If it does not end well, one line more says so.
 fn run(program: &[String], text: &str) -> Vec<String> {
     let child = Command::new(&program[0])
         .args(&program[1..])
@@ -66,16 +88,39 @@ fn run(program: &[String], text: &str) -> Vec<String> {
         .stdout(Stdio::piped())
         .stderr(Stdio::null())
         .spawn();
-    let mut child = child.unwrap_or_else(|e| panic!("{}: {e}", program[0]));
+    let mut child = child.unwrap_or_else(|e| stop(&format!("{}: {e}", program[0])));
     let mut input = child.stdin.take().expect("a pipe");
     let mut output = child.stdout.take().expect("a pipe");
-    let mut answers = Vec::new();
+    let (done, finished) = mpsc::channel();
     thread::scope(|scope| {
         // A program that stops early closes its input: what it did not answer then shows as a difference.
         scope.spawn(move || drop(input.write_all(text.as_bytes())));
-        output.read_to_end(&mut answers).expect("a readable pipe");
-    });
-    child.wait().expect("a child that can be waited for");
-    let text = String::from_utf8_lossy(&answers).into_owned();
-    text.lines().map(str::to_owned).collect()
+        scope.spawn(move || {
+            let mut answers = Vec::new();
+            drop(output.read_to_end(&mut answers));
+            drop(done.send(answers));
+        });
+        let answers = finished.recv_timeout(LIMIT).unwrap_or_else(|_| {
+            drop(child.kill());
+            finished.recv().unwrap_or_default()
+        });
+        let ended = child.wait().is_ok_and(|status| status.success());
+        lines_of(&answers, ended)
+    })
+}
+
+/// Only byte 10 ends an answer, and it ends every answer.
+fn lines_of(answers: &[u8], ended_well: bool) -> Vec<String> {
+    let pieces = answers.split(|&b| b == b'\n');
+    let mut lines: Vec<String> = pieces
+        .map(|piece| String::from_utf8_lossy(piece).into_owned())
+        .collect();
+    let rest = lines.pop().unwrap_or_default();
+    if !rest.is_empty() {
+        lines.push(format!("(no end of line) {rest}"));
+    }
+    if !ended_well {
+        lines.push("(the program did not end well)".to_owned());
+    }
+    lines
 }

@@ -1,5 +1,5 @@
-//! Lists about the tables: layers that share an id, the registry, popups, and every limit from both sides.
-use crate::draw::Draw;
+//! Lists about the tables: layers that share an id, what a point hits, the registry, popups.
+use crate::draw::{Draw, steps};
 
 fn mixed(d: &mut Draw, calls: &[&'static str], count: usize) -> Vec<String> {
     (0..count)
@@ -95,120 +95,60 @@ pub fn registry(d: &mut Draw) -> Vec<String> {
     lines
 }
 
-/// One table filled up to its limit and past it, or one list as long as may be and longer.
-pub fn limits(d: &mut Draw) -> Vec<String> {
-    match d.rng.below(5) {
-        0 => full_stack(d),
-        1 => full_cache(d),
-        2 => full_registry(d),
-        3 => long_events(d),
-        _ => long_used(d),
-    }
-}
-
-/// Calls with each id from 1 to a count near the limit.
-fn near(d: &mut Draw, limit: u64) -> Vec<u64> {
-    let count = limit - 2 + d.rng.below(4) as u64;
-    let mut ids: Vec<u64> = (1..=count).collect();
-    if d.rng.percent(50) {
-        d.rng.shuffle(&mut ids);
-    }
-    ids
-}
-
-fn full_stack(d: &mut Draw) -> Vec<String> {
+/// A few areas over one another, and points at their corners and edges or a step beside them.
+pub fn hits(d: &mut Draw) -> Vec<String> {
+    let count = 2 + d.rng.below(5);
+    let areas: Vec<[i64; 4]> = (0..count).map(|_| area(d)).collect();
     let mut lines = Vec::new();
-    for id in near(d, 64) {
-        let order = d.order();
-        lines.push(if d.rng.percent(50) {
-            format!("set_state {order} {id} {}", d.state())
-        } else {
-            format!("move_to_top {order} {id}")
-        });
-    }
-    if d.rng.percent(50) {
-        lines.push("end 0".to_owned());
-    }
-    for _ in 0..12 {
-        let id = 60 + d.rng.below(10);
-        lines.push(match d.rng.below(6) {
-            0 => format!("move_to_top 1 {id}"),
-            1 => format!("set_state 1 {id} {}", d.state()),
-            2 => format!("set_sublayer 1 {id} 1 {id}"),
-            3 => format!("set_modal_layer 1 {id}"),
-            _ => format!("set_sublayer 1 {id} 1 {}", 60 + d.rng.below(10)),
-        });
-        if d.rng.percent(20) {
-            lines.push(d.rng.pick(&["layer_ids", "state", "end 0"]).to_owned());
+    for _ in 0..3 + d.rng.below(5) {
+        for (i, area) in areas.iter().enumerate() {
+            if d.rng.percent(60) {
+                lines.push(set_state(d, i, area));
+            }
+        }
+        let asides = 1 + d.rng.below(3);
+        lines.extend((0..asides).map(|_| aside(d)));
+        for _ in 0..4 {
+            let area = d.rng.pick(&areas);
+            lines.push(point(d, area));
         }
     }
     lines
 }
 
-fn full_cache(d: &mut Draw) -> Vec<String> {
-    let mut lines = vec!["begin 0".to_owned()];
-    lines.extend(near(d, 256).iter().map(|id| format!("interest {id} 1 7")));
-    for _ in 0..10 {
-        let id = 250 + d.rng.below(12);
-        lines.push(match d.rng.below(6) {
-            0 => format!("ignore_focus {id}"),
-            1 => format!("request_focus {id}"),
-            2 => format!("set_modal_layer 2 {id}"),
-            3 => format!("end {}", d.used_of(256, false)),
-            4 => format!("begin 1 k {} 1 0 0", d.key()),
-            _ => format!("interest {id} 1 7"),
-        });
-    }
-    lines
+/// A small rectangle, in 32nds.
+fn area(d: &mut Draw) -> [i64; 4] {
+    let [x, y] = [(); 2].map(|()| 8 * d.rng.between(-2, 4));
+    let [width, height] = [(); 2].map(|()| 8 * d.rng.between(0, 6));
+    [x, y, x + width, y + height]
 }
 
-fn full_registry(d: &mut Draw) -> Vec<String> {
-    let mut lines = Vec::new();
-    for id in near(d, 256) {
-        let layer = 7 + d.rng.below(2);
-        let (rect, top) = (d.rect(), d.rng.below(2));
-        lines.push(format!(
-            "insert 1 {layer} {id} 9 1 {layer} {rect} {rect} 4 1 1 {top}"
-        ));
-    }
-    for _ in 0..10 {
-        let id = 250 + d.rng.below(12);
-        lines.push(match d.rng.below(8) {
-            0 => "clear".to_owned(),
-            1 => format!("order {id}"),
-            2 => d.call("insert"),
-            _ => format!(
-                "insert 1 7 {id} 9 1 7 {} {} 3 0 1 {}",
-                d.rect(),
-                d.rect(),
-                d.rng.below(2)
-            ),
-        });
-    }
-    lines
+/// The state of an area on one of two layers that may share its id.
+fn set_state(d: &mut Draw, place: usize, area: &[i64; 4]) -> String {
+    let [x, y] = [area[0], area[1]].map(steps);
+    let [width, height] = [area[2] - area[0], area[3] - area[1]].map(steps);
+    let (order, interactable) = (d.order(), u64::from(d.rng.percent(70)));
+    let id = 1 + place / 2;
+    format!("set_state {order} {id} 1 {x} {y} 0 0 1 {width} {height} {interactable}")
 }
 
-fn long_events(d: &mut Draw) -> Vec<String> {
-    let mut lines = vec!["interest 1 1 7".to_owned(), "interest 2 1 7".to_owned()];
-    for _ in 0..6 {
-        d.malice = d.rng.pick(&[0, 0, 1]);
-        let count = 62 + d.rng.below(5);
-        lines.push(format!("begin {}", d.events_of(count)));
-        lines.push("state".to_owned());
+fn aside(d: &mut Draw) -> String {
+    let (order, id) = (d.order(), 1 + d.rng.below(5));
+    match d.rng.below(7) {
+        0 => format!("move_to_top {order} {id}"),
+        1 => format!("set_modal_layer {order} {id}"),
+        2 => format!("set_sublayer 1 {id} 1 {}", 1 + d.rng.below(4)),
+        3 => "begin 0".to_owned(),
+        4 => "top_modal_layer".to_owned(),
+        _ => "end 0".to_owned(),
     }
-    lines
 }
 
-fn long_used(d: &mut Draw) -> Vec<String> {
-    let mut lines = vec!["interest 1 1 7".to_owned(), "interest 2 1 7".to_owned()];
-    for _ in 0..3 {
-        d.malice = d.rng.pick(&[0, 0, 0, 1]);
-        let count = 254 + d.rng.below(5);
-        let twice = d.rng.percent(15);
-        lines.push("begin 1 k 2 1 0 0".to_owned());
-        lines.push("request_focus 1".to_owned());
-        lines.push(format!("end {}", d.used_of(count, twice)));
-        lines.push("focused".to_owned());
+fn point(d: &mut Draw, area: [i64; 4]) -> String {
+    if d.rng.percent(8) {
+        return d.call("layer_id_at");
     }
-    lines
+    let x = d.rng.pick(&[area[0], area[2]]) + d.rng.pick(&[0, 0, 1, -1]);
+    let y = d.rng.pick(&[area[1], area[3]]) + d.rng.pick(&[0, 0, 1, -1]);
+    format!("layer_id_at {} {}", steps(x), steps(y))
 }

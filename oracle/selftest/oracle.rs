@@ -1,10 +1,10 @@
-//! Breaks the oracle in each place that breaks.txt names and sees whether the comparer finds it: `selftest BREAKS OUT LISTS` prints a
-//! table and fails if one break is not found, or does not compile. OUT is the folder that oracle/build has filled.
+//! Breaks of the oracle: each is compiled, and the comparer must tell it from the oracle.
+use crate::{Row, run, stop};
 use std::path::Path;
-use std::process::{Command, exit};
-use std::{env, fs, thread};
+use std::process::Command;
+use std::{fs, thread};
 
-struct Break<'a> {
+pub struct Break<'a> {
     name: &'a str,
     file: &'a str,
     after: &'a str,
@@ -12,28 +12,13 @@ struct Break<'a> {
     new: &'a str,
 }
 
-fn main() {
-    let args: Vec<String> = env::args().skip(1).collect();
-    let [breaks, out, lists] = args.as_slice() else {
-        stop("usage: selftest BREAKS OUT LISTS");
-    };
-    let text = fs::read_to_string(breaks).unwrap_or_else(|e| stop(&e.to_string()));
-    let breaks: Vec<Break> = text
-        .lines()
-        .filter(|l| !l.is_empty() && !l.starts_with('#'))
+/// The breaks that a file names, one a line.
+pub fn breaks(text: &str) -> Vec<Break<'_>> {
+    let lines = text.lines();
+    lines
+        .filter(|line| !line.is_empty() && !line.starts_with('#'))
         .map(parse)
-        .collect();
-    println!("| break | found in list | shrunk to | the last line asks |\n|---|---|---|---|");
-    let rows = rows(&breaks, Path::new(out), lists);
-    rows.iter().for_each(|row| println!("{}", row.text));
-    let found = rows.iter().filter(|row| row.found).count();
-    println!("\n{found} of {} found", rows.len());
-    exit(i32::from(found != rows.len()));
-}
-
-fn stop(why: &str) -> ! {
-    eprintln!("selftest: {why}");
-    exit(2)
+        .collect()
 }
 
 fn parse(line: &str) -> Break<'_> {
@@ -58,13 +43,8 @@ fn parse(line: &str) -> Break<'_> {
     }
 }
 
-struct Row {
-    text: String,
-    found: bool,
-}
-
 /// Two at a time: a break costs a compilation and a run.
-fn rows(breaks: &[Break], out: &Path, lists: &str) -> Vec<Row> {
+pub fn rows(breaks: &[Break], out: &Path, lists: &str) -> Vec<Row> {
     let half = breaks.len().div_ceil(2);
     thread::scope(|scope| {
         let tasks: Vec<_> = breaks
@@ -139,16 +119,6 @@ fn compile(b: &Break, out: &Path, worker: usize) -> Result<String, String> {
         .arg(copy.join("src/main.rs"))
         .env("EGUI", egui))?;
     Ok(program.display().to_string())
-}
-
-fn run(command: &mut Command) -> Result<(), String> {
-    let done = command.output().map_err(|e| e.to_string())?;
-    if done.status.success() {
-        Ok(())
-    } else {
-        let why = String::from_utf8_lossy(&done.stderr);
-        Err(why.lines().take(3).collect::<Vec<_>>().join(" "))
-    }
 }
 
 /// Whether the comparer tells the oracle from the broken one, and the cells that say how.

@@ -1,0 +1,68 @@
+-- `replay::take_chunk` is safe and ends. The measure is what is left of the chunk. Assumes nothing.
+use mathlib.Core.Path.{_≡_}
+use Prim.Native.Nat.{_-_}
+use native.Mathlib.Omega.{arith}
+use lib.ListN.{length}
+use Rattle.replay.proofs.take_chunk.Statement.{statement}
+use Rattle.replay.proofs.take_chunk.Tie as tie
+
+abbrev Inv-loop : tie.InvT-loop
+Inv-loop chunk line₀ out₀ now₀ i₀ line out now i = (length line ≡ length line₀) × (length out ≡ length out₀)
+
+abbrev μ-loop : tie.MeasureT-loop
+μ-loop chunk line₀ out₀ now₀ i₀ line out now i = length chunk - i
+
+loop-holds : tie.Need-loop-holds Inv-loop μ-loop
+loop-holds c = omega arith
+
+line-end-requires : tie.Need-line-end-requires Inv-loop μ-loop
+line-end-requires c κs = tt
+
+sub-take-part : tie.Need-sub-take-part Inv-loop μ-loop
+sub-take-part c = omega arith
+
+part-take-part-start : tie.Need-part-take-part-start Inv-loop μ-loop
+part-take-part-start c = omega arith
+
+part-take-part-end : tie.Need-part-take-part-end Inv-loop μ-loop
+part-take-part-end c = omega arith
+
+take-part-requires : tie.Need-take-part-requires Inv-loop μ-loop
+take-part-requires c κs = tt
+
+add-i : tie.Need-add-i Inv-loop μ-loop
+add-i c = omega arith
+
+loop-less : tie.Need-loop-less Inv-loop μ-loop
+loop-less c = omega arith
+
+loop-again : tie.Need-loop-again Inv-loop μ-loop
+loop-again c = omega arith
+
+same-length : tie.Need-same-length Inv-loop μ-loop
+same-length c = omega arith
+
+same-length-2 : tie.Need-same-length-2 Inv-loop μ-loop
+same-length-2 c = omega arith
+
+returns : tie.Need-returns Inv-loop μ-loop
+returns c = tt
+
+pub take-chunk-spec : {M : Type 1} → statement M
+take-chunk-spec =
+    tie.close
+    (tie.spec
+    Inv-loop
+    μ-loop
+    loop-holds
+    line-end-requires
+    sub-take-part
+    part-take-part-start
+    part-take-part-end
+    take-part-requires
+    add-i
+    loop-less
+    loop-again
+    same-length
+    same-length-2
+    returns)
