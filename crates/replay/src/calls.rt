@@ -1,91 +1,79 @@
-// The calls of the protocol, a function each: it reads the words that follow the call's name, and asks the library.
+// The calls of the protocol, a function each: words in, what the library answers out.
 use crate::print::Reply;
+use crate::values;
+use crate::values::EventWords;
 use crate::words;
-use crate::words::EventWords;
-use crate::words::FilterWords;
-use crate::words::PairWords;
-use crate::words::StateWords;
+use crate::words::Words;
 use area::PosAnswer;
 use area::RectAnswer;
 use area::StateAnswer;
 use input::Matched;
-use text::Place;
 
 // `left_top_pos STATE`
-fn left_top_pos(line: &[u8], at: usize) -> Reply {
-    let StateWords::Is(s, end) = words::state(line, at) else {
-        return Reply::Bad;
-    };
-    if end != line.len() {
-        return Reply::Bad;
-    }
-    match s.left_top_pos() {
+fn left_top_pos(v: [u64; 20]) -> Reply {
+    match values::state(v).left_top_pos() {
         PosAnswer::Is(p) => Reply::Pos(p),
         PosAnswer::Refused(n) => Reply::Refused(n),
     }
 }
 
 // `rect STATE`
-fn rect(line: &[u8], at: usize) -> Reply {
-    let StateWords::Is(s, end) = words::state(line, at) else {
-        return Reply::Bad;
-    };
-    if end != line.len() {
-        return Reply::Bad;
-    }
-    match s.rect() {
+fn rect(v: [u64; 20]) -> Reply {
+    match values::state(v).rect() {
         RectAnswer::Is(r) => Reply::Rect(r),
         RectAnswer::Refused(n) => Reply::Refused(n),
     }
 }
 
 // `set_left_top_pos STATE X Y`
-fn set_left_top_pos(line: &[u8], at: usize) -> Reply {
-    let StateWords::Is(s, i) = words::state(line, at) else {
-        return Reply::Bad;
-    };
-    let PairWords::Is(p, end) = words::pair(line, i) else {
-        return Reply::Bad;
-    };
-    if end != line.len() {
-        return Reply::Bad;
-    }
-    match s.set_left_top_pos(p) {
-        StateAnswer::Is(t) => Reply::State(t),
+fn set_left_top_pos(v: [u64; 20]) -> Reply {
+    match values::state(v).set_left_top_pos(values::pos_after_state(v)) {
+        StateAnswer::Is(s) => Reply::State(s),
         StateAnswer::Refused(n) => Reply::Refused(n),
     }
 }
 
-// `matches TAB HORIZONTAL VERTICAL ESCAPE EVENT`
-fn matches(line: &[u8], at: usize) -> Reply {
-    let FilterWords::Is(f, i) = words::filter(line, at) else {
-        return Reply::Bad;
-    };
-    let EventWords::Is(e, end) = words::event(line, i) else {
+// `matches TAB HORIZONTAL VERTICAL ESCAPE EVENT`: the event follows the plain words.
+fn matches(line: &[u8], w: Words) -> Reply {
+    let EventWords::Is(e, end) = values::event(line, w.next) else {
         return Reply::Bad;
     };
     if end != line.len() {
         return Reply::Bad;
     }
-    match f.matches(e) {
+    let v = w.v;
+    match values::filter(v).matches(e) {
         Matched::Is(b) => Reply::Flag(b),
         Matched::Refused(n) => Reply::Refused(n),
     }
 }
 
-// What a line is answered, by its first word.
+// A call that has plain words only, which end the line.
+fn plain(number: usize, v: [u64; 20]) -> Reply {
+    match number {
+        0 => left_top_pos(v),
+        1 => rect(v),
+        2 => set_left_top_pos(v),
+        _ => Reply::Bad,
+    }
+}
+
+// What a line is answered.
 pub fn call(line: &[u8]) -> Reply {
-    if let Place::At(i) = words::first(line, b"left_top_pos") {
-        return left_top_pos(line, i);
+    let c = words::look_up(
+        b"left_top_pos:fxxnnfxxf rect:fxxnnfxxf set_left_top_pos:fxxnnfxxfxx matches:ffff",
+        line,
+    );
+    let w = c.words;
+    if !w.fit {
+        return Reply::Bad;
     }
-    if let Place::At(i) = words::first(line, b"rect") {
-        return rect(line, i);
+    if c.number == 3 {
+        return matches(line, w);
     }
-    if let Place::At(i) = words::first(line, b"set_left_top_pos") {
-        return set_left_top_pos(line, i);
-    }
-    if let Place::At(i) = words::first(line, b"matches") {
-        return matches(line, i);
+    if w.next == line.len() {
+        let v = w.v;
+        return plain(c.number, v);
     }
     Reply::Bad
 }

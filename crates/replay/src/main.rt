@@ -5,6 +5,7 @@ ghost use lib.ListN.{length};
 
 mod calls;
 mod print;
+mod values;
 mod words;
 
 use crate::print::Reply;
@@ -85,7 +86,7 @@ fn take_chunk(chunk: &[u8], line: &mut [u8], out: &mut [u8], before: Progress) -
     let mut now = before;
     let mut i: usize = 0;
     while i < chunk.len() {
-        let e = text::line_end(chunk, i);
+        let e = text::find(chunk, i, b'\n');
         now = take_part(&chunk[i..e], e < chunk.len(), line, out, now);
         i = e + 1;
     }

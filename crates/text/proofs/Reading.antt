@@ -9,7 +9,7 @@ use lib.Dec.{leb, eqb}
 use lib.ListN.{length, getD, drop, drop-of-length-le}
 use lib.Seq.{drop-cons, getD-drop}
 use borrow.Author.Tests.{le-leb, lt-leb, eq-eqb, ne-eqb}
-use Rattle.text.specs.Read.{isDigit, digitsOf, worth, wellWritten, valueAt, numberAt, opens, wordAt, skipAt, numberFrom, argumentAt, lineLength}
+use Rattle.text.specs.Read.{isDigit, digitsOf, worth, wellWritten, valueAt, numberAt, opens, wordAt, skipAt, numberFrom, argumentAt, lengthBefore}
 use Rattle.text.specs.declared.Numeral.{Numeral}
 use Rattle.text.specs.declared.Numeral.the-variants.{Value, Bad}
 use Rattle.text.specs.declared.Place.{Place}
@@ -182,16 +182,16 @@ module _ (s : List ℕ) (i b : ℕ) where
   unfolding wordAt opens
   byte-past h = rw (drop-of-length-le s h)
 
--- ---- the end of a line
-module _ (s : List ℕ) (i : ℕ) where
-  pub line-past : length s ≤ i → lineLength (drop i s) ≡ 0
-  unfolding lineLength
-  line-past h = rw (drop-of-length-le s h)
+-- ---- the first place of a byte
+module _ (s : List ℕ) (i b : ℕ) where
+  pub find-past : length s ≤ i → lengthBefore b (drop i s) ≡ 0
+  unfolding lengthBefore
+  find-past h = rw (drop-of-length-le s h)
 
-  pub line-here : i < length s → getD s i 0 ≡ 10 → lineLength (drop i s) ≡ 0
-  unfolding lineLength
-  line-here h e = rw (drop-cons s i 0 h, eq-eqb (getD s i 0) 10 e)
+  pub find-here : i < length s → getD s i 0 ≡ b → lengthBefore b (drop i s) ≡ 0
+  unfolding lengthBefore
+  find-here h e = rw (drop-cons s i 0 h, eq-eqb (getD s i 0) b e)
 
-  pub line-more : i < length s → (getD s i 0 ≡ 10 → ⊥) → lineLength (drop i s) ≡ suc (lineLength (drop (i + 1) s))
-  unfolding lineLength
-  line-more h e = rw (add-one, drop-cons s i 0 h, ne-eqb (getD s i 0) 10 e)
+  pub find-more : i < length s → (getD s i 0 ≡ b → ⊥) → lengthBefore b (drop i s) ≡ suc (lengthBefore b (drop (i + 1) s))
+  unfolding lengthBefore
+  find-more h e = rw (add-one, drop-cons s i 0 h, ne-eqb (getD s i 0) b e)

@@ -58,10 +58,10 @@ numberFrom s NoPlace = Bad
 abbrev pub argumentAt : List ℕ → ℕ → Numeral
 argumentAt s at = numberFrom s (skipAt s at 32)
 
--- how many bytes stand before byte 10, or before the end
-unfoldable pub lineLength : List ℕ → ℕ
-lineLength [] = 0
-lineLength (b ∷ bs) = cond (eqb b 10) 0 (suc (lineLength bs))
+-- how many bytes stand before the first b, or before the end
+unfoldable pub lengthBefore : ℕ → List ℕ → ℕ
+lengthBefore b [] = 0
+lengthBefore b (c ∷ s) = cond (eqb c b) 0 (suc (lengthBefore b s))
 
-abbrev pub lineEnd : List ℕ → ℕ → ℕ
-lineEnd s at = at + lineLength (drop at s)
+abbrev pub findFrom : List ℕ → ℕ → ℕ → ℕ
+findFrom s at b = at + lengthBefore b (drop at s)

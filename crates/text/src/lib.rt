@@ -5,7 +5,7 @@ ghost use Prim.Native.Nat.{ℕ, _+_, _-_, _≤_, _%_, max, min};
 ghost use mathlib.Core.List.{List, [], _++_};
 ghost use lib.ListN.{length, drop, getD};
 ghost use Rattle.text.specs.Put.{placeAfter, putOn, decimalOf};
-ghost use Rattle.text.specs.Read.{isDigit, digitsOf, valueAt, numberAt, skipAt, wordAt, argumentAt, lineEnd};
+ghost use Rattle.text.specs.Read.{isDigit, digitsOf, valueAt, numberAt, skipAt, wordAt, argumentAt, findFrom};
 
 // The value of a decimal number, and the place after its last digit.
 pub enum Numeral {
@@ -127,13 +127,13 @@ pub fn argument(s: &[u8], at: usize) -> Numeral
     number(s, i)
 }
 
-// The first place from `at` on that has byte 10, and the end where none has; `at` itself past the end.
-pub fn line_end(s: &[u8], at: usize) -> usize
-    ensures { λ r. ⌜ (r ≡ lineEnd (now (s .entry)) at) × (at ≤ r) × (r ≤ max at (length (now (s .entry)))) ⌝ }
+// The first place from `at` on that has the byte b, and the end where none has; `at` itself past the end.
+pub fn find(s: &[u8], at: usize, b: u8) -> usize
+    ensures { λ r. ⌜ (r ≡ findFrom (now (s .entry)) at b) × (at ≤ r) × (r ≤ max at (length (now (s .entry)))) ⌝ }
 {
     let mut i = at;
     while i < s.len() {
-        if s[i] == 10 {
+        if s[i] == b {
             return i;
         }
         i += 1;

@@ -15,8 +15,8 @@ abbrev μ-loop : tie.MeasureT-loop
 loop-holds : tie.Need-loop-holds Inv-loop μ-loop
 loop-holds c = omega arith
 
-line-end-requires : tie.Need-line-end-requires Inv-loop μ-loop
-line-end-requires c κs = tt
+find-requires : tie.Need-find-requires Inv-loop μ-loop
+find-requires c κs = tt
 
 sub-take-part : tie.Need-sub-take-part Inv-loop μ-loop
 sub-take-part c = omega arith
@@ -55,7 +55,7 @@ take-chunk-spec =
     Inv-loop
     μ-loop
     loop-holds
-    line-end-requires
+    find-requires
     sub-take-part
     part-take-part-start
     part-take-part-end
