@@ -16,6 +16,7 @@ pub const KINDS: &[(&str, usize, Kind)] = &[
     ("any calls", 2, any_calls),
     ("refusals", 15, any_calls),
     ("malformed", 5, malformed),
+    ("malformed leaves", 1, malformed_leaves),
     ("limits", 0, limits::limits),
     ("registry", 1, tables::registry),
     ("areas", 1, tables::areas),
@@ -52,16 +53,16 @@ pub fn list(seed: u64, number: u64) -> List {
     }
 }
 
-/// The calls that need no state.
-fn leaves(d: &mut Draw) -> Vec<String> {
+/// A call that needs no state.
+fn leaf(d: &mut Draw) -> String {
     let calls = ["left_top_pos", "rect", "set_left_top_pos", "matches"];
+    let name = d.rng.pick(&calls);
+    d.call(name)
+}
+
+fn leaves(d: &mut Draw) -> Vec<String> {
     let count = 20 + d.rng.below(30);
-    (0..count)
-        .map(|_| {
-            let name = d.rng.pick(&calls);
-            d.call(name)
-        })
-        .collect()
+    (0..count).map(|_| leaf(d)).collect()
 }
 
 fn any_calls(d: &mut Draw) -> Vec<String> {
@@ -77,10 +78,19 @@ fn any_calls(d: &mut Draw) -> Vec<String> {
 }
 
 fn malformed(d: &mut Draw) -> Vec<String> {
+    spoilt(d, Draw::any_call)
+}
+
+fn malformed_leaves(d: &mut Draw) -> Vec<String> {
+    spoilt(d, leaf)
+}
+
+/// Calls of which most have one thing wrong.
+fn spoilt(d: &mut Draw, call: fn(&mut Draw) -> String) -> Vec<String> {
     let count = 5 + d.rng.below(40);
     (0..count)
         .map(|_| {
-            let line = d.any_call();
+            let line = call(d);
             if d.rng.percent(70) {
                 spoil(d, &line)
             } else {

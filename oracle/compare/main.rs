@@ -76,6 +76,9 @@ fn unported(text: &str) -> BTreeSet<String> {
 }
 
 fn compare_lists(count: u64, seed: u64, until: Instant, pair: &Pair) {
+    if count == 0 {
+        stop("no list to compare");
+    }
     let mut tally = Tally::default();
     let mut next = 0;
     while next < count && (next < LEAST || Instant::now() < until) {
@@ -128,7 +131,9 @@ fn list_at(batch: &[List], place: usize) -> &List {
 
 fn compare_file(file: &str, pair: &Pair) {
     let text = read(file);
-    let text = text.strip_suffix('\n').unwrap_or(&text);
+    let Some(text) = text.strip_suffix('\n') else {
+        stop(&format!("{file}: no line, or a last one without its end"));
+    };
     let lines: Vec<String> = text.split('\n').map(str::to_owned).collect();
     match pair.first_difference(&lines) {
         Some(_) => report(&lines, pair),
@@ -151,21 +156,18 @@ fn report(lines: &[String], pair: &Pair) -> ! {
     let least = shrink::shrink(pair, lines.to_vec());
     let (oracle, port) = pair.answers(&least);
     println!("shrunk to {} lines:", least.len());
-    for (i, line) in least.iter().enumerate() {
-        let missing = String::new();
-        let a = oracle.get(i).unwrap_or(&missing);
-        let b = port.get(i).unwrap_or(&missing);
+    let after = "(after the last line)".to_owned();
+    let most = least.len().max(oracle.len()).max(port.len());
+    for place in 0..most {
+        let [line, a, b] = [&least, &oracle, &port].map(|all| all.get(place).unwrap_or(&after));
         println!("  {line}\n    oracle {a}\n    port   {b}");
     }
     process::exit(1)
 }
 
 fn sample(count: u64, seed: u64, pair: &Pair) {
-    for number in 0..count {
-        for line in kinds::list(seed, number).lines {
-            if !pair.is_unported(&line) {
-                println!("{line}");
-            }
-        }
+    let lines = (0..count).flat_map(|number| kinds::list(seed, number).lines);
+    for line in lines.filter(|line| !pair.is_unported(line)) {
+        println!("{line}");
     }
 }

@@ -111,6 +111,11 @@ pub fn ring(d: &mut Draw) -> Vec<String> {
         pass(&mut lines, &page, &[key(TAB, modifiers)]);
         pass(&mut lines, &page, &[]);
     }
+    with_refused(d, lines)
+}
+
+/// Refused calls anywhere among the lines.
+fn with_refused(d: &mut Draw, mut lines: Vec<String>) -> Vec<String> {
     for _ in 0..d.rng.below(4) {
         let place = d.rng.below(lines.len());
         lines.insert(place, refused(d));
@@ -211,21 +216,28 @@ pub fn passes(d: &mut Draw) -> Vec<String> {
     for _ in 0..2 + d.rng.below(10) {
         let events = events(d, &page);
         lines.push(begin(&events));
-        for field in &page {
-            if d.rng.percent(90) {
-                lines.push(interest(field));
-            }
-            if d.rng.percent(10) {
-                lines.push(interest(&page[d.rng.below(count)]));
-            }
-            if d.rng.percent(20) {
-                lines.push(aside(d, &page));
-            }
-        }
+        lines.append(&mut interests(d, &page));
         let kept: Vec<bool> = page.iter().map(|_| d.rng.percent(92)).collect();
         let used = page.iter().zip(&kept).filter(|(_, kept)| **kept);
         lines.push(end(used.map(|(field, _)| field)));
         lines.push(d.rng.pick(&["state", "focused"]).to_owned());
+    }
+    lines
+}
+
+/// The interest calls of a pass: some are missing, some come twice, and others stand between them.
+fn interests(d: &mut Draw, page: &Page) -> Vec<String> {
+    let mut lines = Vec::new();
+    for field in page {
+        if d.rng.percent(90) {
+            lines.push(interest(field));
+        }
+        if d.rng.percent(10) {
+            lines.push(interest(&page[d.rng.below(page.len())]));
+        }
+        if d.rng.percent(20) {
+            lines.push(aside(d, page));
+        }
     }
     lines
 }
@@ -270,15 +282,8 @@ pub fn modal(d: &mut Draw) -> Vec<String> {
     for _ in 0..2 + d.rng.below(8) {
         let events = events(d, &fields);
         lines.push(begin(&events));
-        for layer in [below, above] {
-            if d.rng.percent(80) {
-                lines.push(format!("set_state {} {} {}", layer.0, layer.1, d.state()));
-            }
-            if d.rng.percent(40) {
-                lines.push(format!("set_modal_layer {} {}", above.0, above.1));
-            }
-            lines.push(modal_query(d, layer));
-        }
+        lines.append(&mut show(d, below, above));
+        lines.append(&mut show(d, above, above));
         lines.extend(fields.iter().map(interest));
         if d.rng.percent(30) {
             lines.push(aside(d, &fields));
@@ -286,6 +291,19 @@ pub fn modal(d: &mut Draw) -> Vec<String> {
         lines.push(end(fields.iter()));
         lines.push(d.rng.pick(&["state", "focused"]).to_owned());
     }
+    lines
+}
+
+/// A layer is shown or not, the box's layer is made modal or not, and something is asked.
+fn show(d: &mut Draw, layer: (u64, u64), above: (u64, u64)) -> Vec<String> {
+    let mut lines = Vec::new();
+    if d.rng.percent(80) {
+        lines.push(format!("set_state {} {} {}", layer.0, layer.1, d.state()));
+    }
+    if d.rng.percent(40) {
+        lines.push(format!("set_modal_layer {} {}", above.0, above.1));
+    }
+    lines.push(modal_query(d, layer));
     lines
 }
 

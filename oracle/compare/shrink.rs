@@ -1,45 +1,62 @@
 //! Makes a list on which two programs differ as short as it goes: whole lines first, then entries of lists, then numbers.
 use crate::programs::Pair;
+use std::time::{Duration, Instant};
+
+/// However slow the programs are, what is left after so long is shown.
+const LIMIT: Duration = Duration::from_secs(60);
+
+/// The pair, and until when it may be asked.
+struct Judge<'a> {
+    pair: &'a Pair,
+    until: Instant,
+}
+
+impl Judge<'_> {
+    /// Whether the programs still differ. Past the limit no shorter list is taken.
+    fn differs(&self, lines: &[String]) -> bool {
+        Instant::now() < self.until && self.pair.first_difference(lines).is_some()
+    }
+}
 
 pub fn shrink(pair: &Pair, mut lines: Vec<String>) -> Vec<String> {
+    let judge = Judge {
+        pair,
+        until: Instant::now() + LIMIT,
+    };
     loop {
         let before = lines.clone();
-        cut_after_difference(pair, &mut lines);
-        drop_lines(pair, &mut lines);
-        drop_entries(pair, &mut lines);
-        plain_numbers(pair, &mut lines);
+        cut_after_difference(&judge, &mut lines);
+        drop_lines(&judge, &mut lines);
+        drop_entries(&judge, &mut lines);
+        plain_numbers(&judge, &mut lines);
         if lines == before {
             return lines;
         }
     }
 }
 
-fn differs(pair: &Pair, lines: &[String]) -> bool {
-    pair.first_difference(lines).is_some()
-}
-
-fn cut_after_difference(pair: &Pair, lines: &mut Vec<String>) {
-    if let Some(difference) = pair.first_difference(lines) {
+fn cut_after_difference(judge: &Judge, lines: &mut Vec<String>) {
+    if let Some(difference) = judge.pair.first_difference(lines) {
         lines.truncate(difference.place + 1);
     }
 }
 
 /// Drops runs of lines, long runs first.
-fn drop_lines(pair: &Pair, lines: &mut Vec<String>) {
+fn drop_lines(judge: &Judge, lines: &mut Vec<String>) {
     let mut length = lines.len().div_ceil(2);
     while 0 < length {
-        drop_runs(pair, lines, length);
+        drop_runs(judge, lines, length);
         length /= 2;
     }
 }
 
-fn drop_runs(pair: &Pair, lines: &mut Vec<String>, length: usize) {
+fn drop_runs(judge: &Judge, lines: &mut Vec<String>, length: usize) {
     let mut end = lines.len();
     while 0 < end {
         let start = end.saturating_sub(length);
         let mut fewer = lines.clone();
         fewer.drain(start..end);
-        if differs(pair, &fewer) {
+        if judge.differs(&fewer) {
             *lines = fewer;
         }
         end = start;
@@ -66,7 +83,7 @@ fn entry_words(line: &str) -> Option<Vec<Vec<String>>> {
     Some(entries)
 }
 
-fn drop_entries(pair: &Pair, lines: &mut Vec<String>) {
+fn drop_entries(judge: &Judge, lines: &mut Vec<String>) {
     for place in 0..lines.len() {
         let name = lines[place]
             .split(' ')
@@ -74,13 +91,13 @@ fn drop_entries(pair: &Pair, lines: &mut Vec<String>) {
             .unwrap_or_default()
             .to_owned();
         if let Some(entries) = entry_words(&lines[place]) {
-            drop_entries_of(pair, lines, place, &name, entries);
+            drop_entries_of(judge, lines, place, &name, entries);
         }
     }
 }
 
 fn drop_entries_of(
-    pair: &Pair,
+    judge: &Judge,
     lines: &mut Vec<String>,
     place: usize,
     name: &str,
@@ -95,7 +112,7 @@ fn drop_entries_of(
         let mut words = vec![name.to_owned(), fewer.len().to_string()];
         words.extend(fewer.concat());
         with[place] = words.join(" ");
-        if differs(pair, &with) {
+        if judge.differs(&with) {
             *lines = with;
             entries = fewer;
         }
@@ -103,16 +120,21 @@ fn drop_entries_of(
 }
 
 /// Makes numbers 0 or 1 where the difference stays.
-fn plain_numbers(pair: &Pair, lines: &mut Vec<String>) {
+fn plain_numbers(judge: &Judge, lines: &mut Vec<String>) {
     for place in 0..lines.len() {
-        let count = lines[place].split(' ').count();
-        for word in 1..count.min(40) {
-            plain_number(pair, lines, place, word);
-        }
+        plain_line(judge, lines, place);
     }
 }
 
-fn plain_number(pair: &Pair, lines: &mut Vec<String>, place: usize, word: usize) {
+/// The first words of a line: the others are entries of a long list.
+fn plain_line(judge: &Judge, lines: &mut Vec<String>, place: usize) {
+    let count = lines[place].split(' ').count();
+    for word in 1..count.min(40) {
+        plain_number(judge, lines, place, word);
+    }
+}
+
+fn plain_number(judge: &Judge, lines: &mut Vec<String>, place: usize, word: usize) {
     for plain in ["0", "1"] {
         let mut words: Vec<&str> = lines[place].split(' ').collect();
         if words[word] == "0" || words[word] == plain {
@@ -121,7 +143,7 @@ fn plain_number(pair: &Pair, lines: &mut Vec<String>, place: usize, word: usize)
         words[word] = plain;
         let mut with = lines.clone();
         with[place] = words.join(" ");
-        if differs(pair, &with) {
+        if judge.differs(&with) {
             *lines = with;
             return;
         }

@@ -101,16 +101,23 @@ pub fn hits(d: &mut Draw) -> Vec<String> {
     let areas: Vec<[i64; 4]> = (0..count).map(|_| area(d)).collect();
     let mut lines = Vec::new();
     for _ in 0..3 + d.rng.below(5) {
-        for (i, area) in areas.iter().enumerate() {
-            if d.rng.percent(60) {
-                lines.push(set_state(d, i, area));
-            }
-        }
+        lines.append(&mut shown(d, &areas));
         let asides = 1 + d.rng.below(3);
         lines.extend((0..asides).map(|_| aside(d)));
-        for _ in 0..4 {
+        lines.extend((0..4).map(|_| {
             let area = d.rng.pick(&areas);
-            lines.push(point(d, area));
+            point(d, area)
+        }));
+    }
+    lines
+}
+
+/// The states of most areas.
+fn shown(d: &mut Draw, areas: &[[i64; 4]]) -> Vec<String> {
+    let mut lines = Vec::new();
+    for (i, area) in areas.iter().enumerate() {
+        if d.rng.percent(60) {
+            lines.push(set_state(d, i, area));
         }
     }
     lines

@@ -11,9 +11,18 @@ use std::path::Path;
 use std::process::{Command, exit};
 use std::{env, fs};
 
+/// A break, and what became of it.
 pub struct Row {
     pub text: String,
-    pub found: bool,
+    pub end: End,
+}
+
+#[derive(PartialEq)]
+pub enum End {
+    Found,
+    /// No call shows it yet, and none did.
+    OutOfReach,
+    Wrong,
 }
 
 fn main() {
@@ -33,9 +42,13 @@ fn main() {
         _ => stop("usage: selftest oracle BREAKS OUT LISTS, or selftest port OUT SAMPLE UNREACHED"),
     };
     rows.iter().for_each(|row| println!("{}", row.text));
-    let found = rows.iter().filter(|row| row.found).count();
-    println!("\n{found} of {} found", rows.len());
-    exit(i32::from(found != rows.len()));
+    let count = |end: End| rows.iter().filter(|row| row.end == end).count();
+    let (found, beyond) = (count(End::Found), count(End::OutOfReach));
+    println!(
+        "\n{} breaks: {found} found, {beyond} out of reach",
+        rows.len()
+    );
+    exit(i32::from(found == 0 || found + beyond != rows.len()));
 }
 
 pub fn stop(why: &str) -> ! {

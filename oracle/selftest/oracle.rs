@@ -1,5 +1,5 @@
 //! Breaks of the oracle: each is compiled, and the comparer must tell it from the oracle.
-use crate::{Row, run, stop};
+use crate::{End, Row, run, stop};
 use std::path::Path;
 use std::process::Command;
 use std::{fs, thread};
@@ -68,7 +68,7 @@ fn row(b: &Break, out: &Path, lists: &str, worker: usize) -> Row {
     };
     Row {
         text: format!("| {} | {cells} |", b.name),
-        found,
+        end: if found { End::Found } else { End::Wrong },
     }
 }
 
@@ -135,7 +135,7 @@ fn compare(out: &Path, program: &str, lists: &str) -> (bool, String) {
         .lines()
         .rfind(|l| l.starts_with("  ") && !l.starts_with("   "));
     match (done.status.code(), shrunk, last) {
-        (Some(1), Some(shrunk), Some(last)) => (
+        (Some(1), Some(shrunk), Some(last)) if word(shrunk, 2) != "0" => (
             true,
             format!(
                 "{} | {} lines | `{}`",

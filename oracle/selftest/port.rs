@@ -1,6 +1,6 @@
 //! Breaks of the port: the must-fail edits of running code, which the prover refuses, are run unproved (`rt try`) on the stored sample
 //! and must be told from the oracle by their answers. It works on a copy of the crates, outside the repository.
-use crate::{Row, read, run, stop};
+use crate::{End, Row, read, run, stop};
 use std::path::{Path, PathBuf};
 use std::process::Command;
 use std::{env, fs, process};
@@ -96,19 +96,16 @@ fn row(folder: &Path, edit: &Edit, unreached: &str) -> Row {
     put(&text);
     let known = format!("{} {}", edit.krate, edit.label);
     let unreached = unreached.lines().any(|line| line == known);
-    let cell = match (&place, unreached) {
-        (Some(line), false) => format!("line {line}"),
-        (None, true) => "no call reaches it yet".to_owned(),
-        (Some(_), true) => "FOUND, but said to be out of reach".to_owned(),
-        (None, false) => "NOT FOUND".to_owned(),
+    let (end, cell) = match (place, unreached) {
+        (Some(line), false) => (End::Found, format!("line {line}")),
+        (None, true) => (End::OutOfReach, "no call shows it yet".to_owned()),
+        (Some(_), true) => (End::Wrong, "FOUND, but said to be out of reach".to_owned()),
+        (None, false) => (End::Wrong, "NOT FOUND".to_owned()),
     };
+    let label = edit.label.replace('_', " ");
     Row {
-        text: format!(
-            "| {} | {} | {cell} |",
-            edit.krate,
-            edit.label.replace('_', " ")
-        ),
-        found: place.is_some() != unreached,
+        text: format!("| {} | {label} | {cell} |", edit.krate),
+        end,
     }
 }
 
