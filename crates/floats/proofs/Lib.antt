@@ -1,6 +1,9 @@
 pub mod Counts
 pub mod Held
+pub mod Order
+pub mod Own
 pub mod Plain
+pub mod Rounded
 pub mod Scale
 pub mod Sign
 pub mod Value

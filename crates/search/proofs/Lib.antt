@@ -1,0 +1,7 @@
+pub mod TieRule
+pub mod Better
+pub mod Least
+pub mod Steps
+pub mod EguiLeast
+pub mod Turns
+pub mod Places

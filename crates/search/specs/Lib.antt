@@ -1,0 +1,3 @@
+pub mod Search
+pub mod Walk
+pub mod EguiWalk

@@ -1,0 +1,3 @@
+pub mod Length
+pub mod Nearest
+pub mod Vec2
