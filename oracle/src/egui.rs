@@ -18,6 +18,7 @@ pub mod memory {
     egui!("memory");
 
     mod view;
+    pub use view::Search;
 }
 
 pub mod widget_rect {

@@ -3,10 +3,14 @@
 //!     oracle             answers standard input
 //!     oracle falling     the same, with egui's maps walked from the largest id down: where that changes an answer, egui leaves it open
 //!     oracle hypot N     asks of N differences whether hypot gives the f32 nearest the root
+//!     oracle searches N SEED    what egui's directional search finds in N tables (oracle/search has the port's side)
+//!     oracle times       how long it takes
 #![allow(dead_code, unexpected_cfgs, unused_imports)]
 extern crate alloc;
 
 mod answers;
+#[path = "../search/clock.rs"]
+mod clock;
 mod convert;
 mod egui;
 mod emath;
@@ -15,8 +19,11 @@ mod line;
 mod refusals;
 #[path = "../compare/rng.rs"]
 mod rng;
+mod searches;
 mod simple;
 mod stand_ins;
+#[path = "../search/tables.rs"]
+mod tables;
 mod words;
 
 // The names by which egui's text reaches its own items.
@@ -45,9 +52,18 @@ fn main() -> std::io::Result<()> {
             stand_ins::FALLING.store(true, Ordering::Relaxed);
             answer_all()
         }
-        ["hypot", count] => ask_hypot(count.parse().expect("a number")),
-        _ => panic!("usage: oracle [falling | hypot N]"),
+        ["hypot", count] => ask_hypot(number(count)),
+        ["searches", count, seed] => searches::answers(number(count), number(seed)),
+        ["times"] => {
+            searches::times();
+            Ok(())
+        }
+        _ => panic!("usage: oracle [falling | hypot N | searches N SEED | times]"),
     }
+}
+
+fn number(word: &str) -> u64 {
+    word.parse().expect("a number")
 }
 
 fn answer_all() -> std::io::Result<()> {

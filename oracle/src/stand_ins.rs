@@ -64,7 +64,29 @@ impl PartialOrd for LayerId {
 }
 
 /// The map of the focus cache and of area states.
+#[cfg(not(hashed))]
 pub type IdMap<V> = BTreeMap<Id, V>;
+
+/// The same as egui has it, a hash map in which an id is its own hash: for times, since its order is no one's.
+#[cfg(hashed)]
+pub type IdMap<V> = HashMap<Id, V, std::hash::BuildHasherDefault<IdHasher>>;
+
+#[derive(Default)]
+pub struct IdHasher(u64);
+
+impl std::hash::Hasher for IdHasher {
+    fn write(&mut self, _: &[u8]) {
+        unreachable!("an id is one number")
+    }
+
+    fn write_u64(&mut self, n: u64) {
+        self.0 = n;
+    }
+
+    fn finish(&self) -> u64 {
+        self.0
+    }
+}
 
 /// The registry's map: its text names the standard map's own entries. It is never walked.
 pub type HashedIdMap<V> = HashMap<Id, V>;

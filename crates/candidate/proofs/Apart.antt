@@ -1,12 +1,12 @@
 -- On the grid `rangeDiff` is the whole-number difference, one axis at a time: a law for both axes. Assumes nothing.
-use mathlib.Core.Path.{_≡_, refl, sym, ap, _∙_, subst}
+use mathlib.Core.Path.{_≡_, refl, ap, _∙_}
 use Prim.Native.Nat.{ℕ, _+_, _*_, _^_, _≤_, _<_}
 use native.Mathlib.Omega.{arith}
 use mathlib.Core.Bool.{Bool, true, false, cond}
 use lib.IntN.{ℤ, pos, natAbs, _+ℤ_, _-ℤ_, _*ℤ_}
 use lib.Signed.{ltZ, leZ}
 use lib.Dec.{lit<, lit≤}
-use lib.Ieee.{Float, binary32, ofBits, add, sub, mul, le}
+use lib.Ieee.{binary32, ofBits, add, sub, mul}
 use Rattle.refusal.specs.Refusal.{none, lowest}
 use Rattle.floats.specs.Count.{at, countOf, half}
 use Rattle.floats.proofs.Counts.{add-count, sub-count, le-count, pick-count}

@@ -1,13 +1,12 @@
 -- The four arrows as one: an axis and whether the arrow points to its low end. The product with an arrow's direction is the part along it. Assumes nothing.
-use mathlib.Core.Path.{_≡_, refl, sym, ap, _∙_}
+use mathlib.Core.Path.{_≡_, refl, _∙_}
 use mathlib.Core.Logic.{_⊎_, inl, inr}
-use Prim.Native.Nat.{ℕ, zero, suc, _*_}
-use native.Mathlib.Nat.{add-zero, mul-zero}
-use mathlib.Core.Bool.{Bool, true, false, not, _&&_, _||_, cond}
+use Prim.Native.Nat.{ℕ, zero}
+use mathlib.Core.Bool.{Bool, true, false, cond}
 use lib.IntN.{ℤ, pos}
 use lib.Dec.{T, eqb}
-use lib.Ieee.{Float, fin, binary32, ofBits, add, mul, neg, le, unlike, fits}
-use Rattle.floats.proofs.Own.{times-unit, times-zero, plus-zero, zero-plus}
+use lib.Ieee.{Float, fin, binary32, ofBits, add, neg, unlike, fits}
+use Rattle.floats.proofs.Own.{times-unit, times-zero}
 use Rattle.emath.specs.declared.Vec2.{Vec2}
 use Rattle.input.specs.FocusDirection.{up, right, down, left}
 use Rattle.vec2.specs.Vec2.{dotOf}

@@ -1,15 +1,15 @@
 -- The cosine: NaN off the grid; on it the part along the arrow divided by the length where that part is above zero, and below the bound of the cone where it is not.
 -- Assumes nothing.
 use mathlib.Core.Path.{_≡_, refl, sym, ap, _∙_, subst}
-use mathlib.Core.Logic.{_⊎_, inl, inr}
-use Prim.Native.Nat.{ℕ, zero, suc, _+_, _*_, _^_, _≤_, _<_, zero-le}
-use native.Mathlib.Nat.{eq-zero-or-pos, zero-mul, mul-pos, lt-irrefl, lt-of-lt-of-le, le-of-eq, zero-lt-suc}
+use mathlib.Core.Logic.{inl, inr}
+use Prim.Native.Nat.{ℕ, zero, suc, _+_, _*_, _^_, _≤_, _<_}
+use native.Mathlib.Nat.{eq-zero-or-pos, zero-mul, mul-pos, lt-irrefl, lt-of-lt-of-le, zero-lt-suc}
 use native.Mathlib.Omega.{arith}
-use mathlib.Core.Bool.{Bool, true, false, not, _&&_, _||_, cond, false≢true, true≢false}
+use mathlib.Core.Bool.{Bool, true, false, not, _&&_, _||_, cond, true≢false}
 use lib.IntN.{ℤ, pos, natAbs}
-use lib.Dec.{T, ltb, leb, eqb, lit<}
-use lib.Ieee.{Float, nan, inf, fin, binary32, ofBits, up, down, round, add, mul, div, neg, le, unlike, fits, size}
-use lib.Ieee.Fits.{div-fits, down-pos, up-pos}
+use lib.Dec.{T, ltb, eqb, lit<}
+use lib.Ieee.{Float, nan, inf, fin, binary32, ofBits, round, add, mul, div, neg, le, unlike, fits, size}
+use lib.Ieee.Fits.{div-fits}
 use lib.Ieee.Exact.{HasValue}
 use lib.Pow.{pow-pos}
 use borrow.Author.Tests.{leb-true, leb-false, lt-leb, lt-ltb}
@@ -22,12 +22,12 @@ use Rattle.floats.proofs.Rounded.{Finite}
 use Rattle.emath.specs.declared.Vec2.{Vec2}
 use Rattle.vec2.specs.Length.{rootOf, wholeNearest, digitsUp, nearestOf, lengthOf}
 use Rattle.vec2.specs.Vec2.{pickVec, normalizedOf, dotOf}
-use Rattle.vec2.proofs.Laws.{OnGrid, on-grid, rooted, length-value}
+use Rattle.vec2.proofs.Laws.{rooted, length-value}
 use Rattle.candidate.specs.Candidate as spec
 use Rattle.candidate.specs.Candidate.{searchDirection, alongOf, acosAngle}
 use Rattle.candidate.proofs.Arrow.{nil, part, turn, unit, Arrow, Still, arrow, dot-parts}
 use Rattle.candidate.proofs.Bound.{bound, zero-under, negative-plus, plus-negative, zeros}
-use Rattle.candidate.proofs.Quotient.{squares-below, rooted-pos, quotient, quotient-finite}
+use Rattle.candidate.proofs.Quotient.{rooted-pos, quotient, quotient-finite}
 
 -- ---- off the grid
 nan-dot : (d : Vec2) → dotOf (record { x = nan; y = nan }) d ≡ nan

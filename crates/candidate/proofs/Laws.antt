@@ -1,5 +1,5 @@
 -- The definitions, from what each call of the code gave and each test said. Assumes nothing.
-use mathlib.Core.Path.{_≡_, refl, sym, ap, _∙_}
+use mathlib.Core.Path.{_≡_, sym, ap, _∙_}
 use mathlib.Core.Bool.{Bool, true, false, _||_, cond}
 use lib.Ieee.{Float, binary32, sub, mul, lt, le}
 use Rattle.floats.specs.Count.{half}

@@ -1,18 +1,16 @@
 -- A part of a difference on the grid, divided by the length: a quotient of whole numbers, at most 1. Assumes nothing.
 use mathlib.Core.Path.{_≡_, refl, sym, ap, _∙_, subst}
 use Prim.Native.Nat.{ℕ, zero, suc, _+_, _*_, _^_, _≤_, _<_}
-use native.Mathlib.Nat.{le-trans, le-of-eq, le-of-suc-le-suc, lt-of-not-le, lt-of-lt-of-le, not-le-of-lt, mul-assoc, mul-comm, mul-left-comm, mul-one, mul-pos, mul-le-mul, mul-le-mul-right, mul-mul-mul-comm, pow-suc}
+use native.Mathlib.Nat.{le-trans, le-of-eq, le-of-suc-le-suc, lt-of-not-le, lt-of-lt-of-le, mul-assoc, mul-comm, mul-left-comm, mul-pos, mul-le-mul, mul-le-mul-right, mul-mul-mul-comm, pow-suc}
 use native.Mathlib.Omega.{arith}
 use mathlib.Core.Bool.{Bool, true, false}
-use lib.IntN.{ℤ, natAbs}
 use lib.Dec.{lit<}
 use lib.Pow.{pow-pos}
-use lib.Ieee.{Float, nan, inf, fin, binary32, round, div, unlike}
+use lib.Ieee.{Float, binary32, round, div, unlike}
 use lib.Ieee.Exact.{HasValue}
 use lib.Ieee.Scale.{round-same}
-use Rattle.floats.specs.Count.{at, countOf}
+use Rattle.floats.specs.Count.{at}
 use Rattle.floats.proofs.Value.{div-at}
-use Rattle.floats.proofs.Counts.{Valued, count-value, sized}
 use Rattle.floats.proofs.Rounded.{Finite, finite-round}
 use Rattle.vec2.specs.Length.{digitsUp, nearestOf}
 use Rattle.vec2.proofs.Laws.{scaled, rooted, rooted-near, rooted-least, length-value}

@@ -1,18 +1,18 @@
 -- What the code may skip: a candidate that is not ahead or far to a side is outside the cone, and a score is no less than either part of the difference.
 -- Assumes nothing.
 use mathlib.Core.Path.{_≡_, refl, sym, ap, _∙_, subst}
-use mathlib.Core.Logic.{_⊎_, inl, inr}
+use mathlib.Core.Logic.{inl, inr}
 use Prim.Native.Nat.{ℕ, zero, suc, _+_, _*_, _^_, _≤_, _<_, zero-le}
-use native.Mathlib.Nat.{lt-of-lt-of-le, lt-of-not-le, mul-le-mul, zero-mul, mul-pos, mul-one, mul-comm, mul-assoc, zero-lt-suc, lt-irrefl}
+use native.Mathlib.Nat.{lt-of-lt-of-le, lt-of-not-le, mul-le-mul, zero-mul, mul-pos, mul-comm, mul-assoc, zero-lt-suc, lt-irrefl}
 use native.Mathlib.Omega.{arith}
-use mathlib.Core.Bool.{Bool, true, false, not, _&&_, _||_, cond, false≢true, true≢false}
+use mathlib.Core.Bool.{Bool, true, false, not, _||_, cond, false≢true, true≢false}
 use lib.IntN.{ℤ, pos, natAbs}
 use lib.Dec.{T, ltb, lit<, lit≤}
 use lib.Pow.{pow-pos}
 use lib.Ieee.{Float, nan, inf, fin, binary32, ofBits, up, down, round, mul, div, neg, lt, le, below}
 use lib.Ieee.Fits.{up-pos, down-pos}
 use lib.Ieee.Exact.{HasValue}
-use borrow.Author.Tests.{le-ltb, lt-ltb, ltb-false}
+use borrow.Author.Tests.{le-ltb, lt-ltb}
 use Rattle.refusal.specs.Refusal.{none}
 use Rattle.floats.specs.Count.{at, countOf}
 use Rattle.floats.proofs.Value.{lt-at, mul-at, rescaled, exact}
@@ -22,14 +22,13 @@ use Rattle.emath.specs.declared.Vec2.{Vec2}
 use Rattle.grid.specs.Grid.{pivotPosRefusal}
 use Rattle.vec2.specs.Length.{digitsUp, nearestOf, lengthOf}
 use Rattle.vec2.proofs.Laws.{OnGrid, on-grid, off-grid, grid-or-not, rooted, nearest-is, length-value}
-use Rattle.candidate.specs.declared.Judged.{Judged}
 use Rattle.candidate.specs.declared.Judged.the-variants.{Outside, Score}
 use Rattle.candidate.specs.Candidate as spec
 use Rattle.candidate.specs.Candidate.{alongOf, acosAngle, coneBound, isInSearchCone, scoreOf, judged, judgeOf, sizeOf, isFarther}
 use Rattle.candidate.proofs.Bound.{bound, bound-is}
 use Rattle.candidate.proofs.Quotient.{squares-below, up-to, quotient}
 use Rattle.candidate.proofs.Cosine.{over-nan, no-cosine, above-zero, Part, part-of, Ahead, ahead, behind}
-use Rattle.candidate.proofs.Score.{beside, score-plain, score-long}
+use Rattle.candidate.proofs.Score.{beside, score-plain, score-finite, score-long}
 
 -- ---- a vector on the grid
 module _ (v : Vec2) (g : OnGrid v) where
@@ -198,6 +197,9 @@ module _ (v : Vec2) (k : ℕ) (i : Inside v k) where
   plain-score : T (plain (scoreOf v k))
   plain-score = subst (λ (x : Float). T (plain x)) (sym score-is) (score-plain (n v (i .grid)) (n-below v (i .grid)) some (i .front .steps) (i .front .within) (i .reached))
 
+  finite-score : lt (scoreOf v k) (inf false) ≡ true
+  finite-score = ap (λ (x : Float). lt x (inf false)) score-is ∙ score-finite (n v (i .grid)) (n-below v (i .grid)) some (i .front .steps) (i .front .within) (i .reached)
+
   long-score : lt (scoreOf v k) (nearestOf (n v (i .grid))) ≡ false
   long-score = ap (λ (x : Float). lt x (nearestOf (n v (i .grid)))) score-is ∙ score-long (n v (i .grid)) (n-below v (i .grid)) some (i .front .steps) (i .front .within) (i .reached)
 
@@ -232,6 +234,10 @@ taken v k s e = scored (isInSearchCone v k) (scoreOf v k) s e
 -- a score is no NaN and not below zero
 pub scored-plain : (v : Vec2) (k : ℕ) (s : Float) → judgeOf v k ≡ Score s → T (plain s)
 scored-plain v k s e = let t = taken v k s e in subst (λ (x : Float). T (plain x)) (t .1) (plain-score v k (inside v k (t .0)))
+
+-- and below infinity
+pub scored-finite : (v : Vec2) (k : ℕ) (s : Float) → judgeOf v k ≡ Score s → lt s (inf false) ≡ true
+scored-finite v k s e = let t = taken v k s e in ap (λ (x : Float). lt x (inf false)) (sym (t .1)) ∙ finite-score v k (inside v k (t .0))
 
 -- where a part of the difference is past a limit, so is the score
 pub farther-loses : (v : Vec2) (k : ℕ) (s limit : Float) → judgeOf v k ≡ Score s → isFarther v limit ≡ true → lt limit s ≡ true

@@ -1,23 +1,23 @@
--- What lies in the cone: how far to the side it can be, and that its score is no less than its length. Assumes nothing.
+-- What lies in the cone: how far to the side it can be, and that its score is no less than its length, and finite. Assumes nothing.
 use mathlib.Core.Path.{_≡_, refl, sym, ap, _∙_, subst}
-use Prim.Native.Nat.{ℕ, zero, suc, _+_, _*_, _^_, _≤_, _<_}
-use native.Mathlib.Nat.{le-refl, le-trans, le-of-eq, le-of-lt, lt-of-not-le, le-of-suc-le-suc, lt-of-lt-of-le, le-of-mul-le-mul-right, mul-one, one-mul, mul-comm, mul-assoc, mul-left-comm, mul-right-comm, mul-le-mul, mul-le-mul-right, mul-pos, mul-mul-mul-comm, pow-suc}
+use Prim.Native.Nat.{ℕ, suc, _+_, _*_, _^_, _≤_, _<_}
+use native.Mathlib.Nat.{le-refl, le-trans, le-of-eq, le-of-lt, lt-of-not-le, le-of-suc-le-suc, le-of-mul-le-mul-right, mul-one, one-mul, mul-assoc, mul-right-comm, mul-le-mul, mul-le-mul-right, mul-pos}
 use native.Mathlib.Omega.{arith}
-use mathlib.Core.Bool.{Bool, true, false, not, _&&_, _||_, cond}
+use mathlib.Core.Bool.{true, false, not, true≢false}
 use lib.IntN.{ℤ, pos, negsuc}
-use lib.Dec.{T, ltb, ltb→lt, lit<, lit≤}
+use lib.Dec.{T, ltb, ltb→lt, lit<}
 use lib.Pow.{pow-pos}
 use lib.Ieee.{Float, nan, inf, fin, binary32, up, down, round, mul, div, lt, le}
 use lib.Ieee.Fits.{up-pos, down-pos}
 use lib.Ieee.Exact.{HasValue}
 use lib.Ieee.Order.{round-mono}
-use lib.Ieee.Positive.{positive, above, above-of-le, values-of-le, positive-of-value}
+use lib.Ieee.Positive.{positive, above, above-of-le, values-of-le}
 use borrow.Author.Tests.{ltb-false}
 use Rattle.floats.proofs.Value.{mul-at, div-at}
 use Rattle.floats.proofs.Order.{plain}
 use Rattle.floats.proofs.Rounded.{Finite, plain-round, at-most-one, finite-round, round-not-above}
 use Rattle.vec2.specs.Length.{digitsUp, nearestOf}
-use Rattle.vec2.proofs.Laws.{scaled, rooted, rooted-near, rooted-least, nearest-is, length-value}
+use Rattle.vec2.proofs.Laws.{scaled, rooted, rooted-near, rooted-most, rooted-least, nearest-is, length-value}
 use Rattle.candidate.proofs.Bound.{bound, reached}
 use Rattle.candidate.proofs.Quotient.{four, up-to, rooted-pos}
 
@@ -33,10 +33,21 @@ below m e h = flat (m * up e) (down e) (ltb-false (1 * 1 * down e) (m * up e * 1
     flat : (x y : ℕ) → x * 1 ≤ 1 * 1 * y → x ≤ y
     flat x y h = omega arith
 
--- the bound's own square, rounded, is above zero
-some-square : T (positive (round binary32 false 140737483538089 (2 ^ 48)))
+quarter : round binary32 false 1 4 ≡ fin false 1 (negsuc 1)
 unfolding round
-some-square = tt
+quarter = refl
+
+most : round binary32 false (2 ^ 24) 1 ≡ fin false 1 (pos 24)
+unfolding round
+most = refl
+
+-- what a finite number is not below is no infinity
+below-infinity : (m : ℕ) (e : ℤ) (x : Float) → T (plain x) → lt (fin false m e) x ≡ false → lt x (inf false) ≡ true
+unfolding lt
+below-infinity m e nan p h = absurd p
+below-infinity m e (inf true) p h = absurd p
+below-infinity m e (inf false) p h = absurd (true≢false h)
+below-infinity m e (fin s n d) p h = refl
 
 bound-value : HasValue bound false 11863283 (2 ^ 24)
 bound-value = (refl, refl)
@@ -84,7 +95,7 @@ module _ (n : ℕ) (N : n < 2 ^ 48) (some : 0 < n) (p : ℕ) (within : p * p ≤
           far : (s n : ℕ) → 4 * s < n → n * 1048575 ≤ 2 * s * 1048576 → ⊥
           far s n h k = omega arith
 
-  -- ---- the cosine, c, and its square, w: both at most 1, and the square above zero
+  -- ---- the cosine, c, and its square: both at most 1, and the square at least 1/4
   abbrev c : Float
   c = round binary32 false (p * 2 ^ t) q
 
@@ -125,20 +136,28 @@ module _ (n : ℕ) (N : n < 2 ^ 48) (some : 0 < n) (p : ℕ) (within : p * p ≤
       let up = above-of-le bound c tt inside in
       values-of-le bound c 11863283 (2 ^ 24) a b tt (subst (λ (x : Float). T (positive x)) (sym (cosine .is)) (subst (λ (x : Float). T (above x)) (cosine .is) up)) bound-value value inside
 
-  square-some : 0 < u
-  square-some =
-      digits-above (square .digits) (square .exponent) (subst (λ (x : Float). T (above x)) (sym squared ∙ square .is)
-      (above-of-le (round binary32 false 140737483538089 (2 ^ 48)) (round binary32 false (a * a) (b * b)) some-square
-      (round-mono binary32 140737483538089 (2 ^ 48) (a * a) (b * b) (pow-pos 48) (mul-pos (down-pos (cosine .exponent)) (down-pos (cosine .exponent))) (squares a b at-least))))
+  from-quarter : T (le (fin false 1 (negsuc 1)) (fin false (square .digits) (square .exponent)))
+  from-quarter =
+      subst T (λ i. le (quarter i) ((sym squared ∙ square .is) i))
+      (round-mono binary32 1 4 (a * a) (b * b) (lit< tt) (mul-pos (down-pos (cosine .exponent)) (down-pos (cosine .exponent))) (squares a b (half a b at-least)))
     where
-      squares : (a b : ℕ) → 11863283 * b ≤ a * 2 ^ 24 → 140737483538089 * (b * b) ≤ a * a * 2 ^ 48
-      squares a b h = le-trans (le-of-eq (left b)) (le-trans (mul-le-mul h h) (le-of-eq (right a)))
-        where
-          left : (b : ℕ) → 140737483538089 * (b * b) ≡ 11863283 * b * (11863283 * b)
-          left b = omega arith
+      half : (a b : ℕ) → 11863283 * b ≤ a * 2 ^ 24 → b ≤ 2 * a
+      half a b h = omega arith
 
-          right : (a : ℕ) → a * 2 ^ 24 * (a * 2 ^ 24) ≡ a * a * 2 ^ 48
+      squares : (a b : ℕ) → b ≤ 2 * a → 1 * (b * b) ≤ a * a * 4
+      squares a b h = le-trans (le-of-eq (one-mul (b * b))) (le-trans (mul-le-mul h h) (le-of-eq (right a)))
+        where
+          right : (a : ℕ) → 2 * a * (2 * a) ≡ a * a * 4
           right a = omega arith
+
+  square-above : T (above (fin false (square .digits) (square .exponent)))
+  square-above = above-of-le (fin false 1 (negsuc 1)) (fin false (square .digits) (square .exponent)) tt from-quarter
+
+  square-some : 0 < u
+  square-some = digits-above (square .digits) (square .exponent) square-above
+
+  square-least : 1 * d ≤ u * 4
+  square-least = values-of-le (fin false 1 (negsuc 1)) (fin false (square .digits) (square .exponent)) 1 4 u d tt square-above (refl, refl) (refl, refl) from-quarter
 
   -- ---- the score: the length divided by that square, so no less than the length
   abbrev score : Float
@@ -158,3 +177,14 @@ module _ (n : ℕ) (N : n < 2 ^ 48) (some : 0 < n) (p : ℕ) (within : p * p ≤
     where
       grouped : (q u l : ℕ) → q * (u * l) ≡ q * u * l
       grouped q u l = sym (mul-assoc q u l)
+
+  -- and at most four times the length, so at most 2 ^ 24
+  pub score-finite : lt score (inf false) ≡ true
+  score-finite =
+      below-infinity 1 (pos 24) score score-plain
+      ((λ i. lt (sym most i) (score-is i))
+      ∙ round-not-above (q * d) (u * (64 * 2 ^ t)) (2 ^ 24) 1 (mul-pos square-some (mul-pos (lit< tt) (pow-pos t))) (lit< tt)
+      (le-trans (le-of-eq (mul-one (q * d))) (mul-le-mul (rooted-most n N) (le-trans (le-of-eq (sym (one-mul d))) (le-trans square-least (mul-le-mul (le-refl u) (four-most (2 ^ t) (pow-pos t))))))))
+    where
+      four-most : (l : ℕ) → 0 < l → 4 ≤ 64 * l
+      four-most l h = omega arith

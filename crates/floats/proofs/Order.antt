@@ -41,13 +41,6 @@ lt-apart (fin s m e) nan h = absurd (false≢true h)
 lt-apart (fin s m e) (inf t) h = (not-true t h, refl)
 lt-apart (fin s m e) (fin t n d) h = apart s t (m * up e * down d) (n * up d * down e) h
 
--- nothing is above the infinity
-pub inf-not-below : (x : Float) → lt (inf false) x ≡ false
-unfolding lt
-inf-not-below nan = refl
-inf-not-below (inf t) = refl
-inf-not-below (fin t n d) = refl
-
 -- ---- a plain float as a fraction, the infinity as 1 / 0: `<` and `=` are the fractions' own
 abbrev pub over : Float → ℕ
 over nan = 0

@@ -1,18 +1,18 @@
 -- An f32 is what its own number rounds to. So a product with 1 or -1, and a sum with a zero, change nothing but a sign. Assumes nothing.
 use mathlib.Core.Path.{_≡_, refl, sym, ap, _∙_, subst}
-use Prim.Native.Nat.{ℕ, zero, suc, _+_, _-_, _*_, _%_, _^_, _≤_, _<_}
-use native.Mathlib.Nat.{mul-one, one-mul, mul-assoc, mul-comm, mul-left-comm, mul-right-comm, zero-mul, mul-zero, add-zero, sub-zero, mul-pos, pow-suc, pow-succ', eq-of-mul-eq-mul-right, zero-lt-suc, lt-irrefl, mul-lt-mul-of-pos-right, lt-of-mul-lt-mul-right}
+use Prim.Native.Nat.{ℕ, zero, suc, _+_, _-_, _*_, _%_, _^_, _<_}
+use native.Mathlib.Nat.{mul-one, mul-assoc, mul-left-comm, mul-right-comm, zero-mul, mul-zero, add-zero, sub-zero, mul-pos, pow-suc, pow-succ', eq-of-mul-eq-mul-right, zero-lt-suc, lt-irrefl, mul-lt-mul-of-pos-right, lt-of-mul-lt-mul-right}
 use native.Mathlib.Omega.{arith}
-use mathlib.Core.Bool.{Bool, true, false, not, _&&_, cond, Bool·beq}
+use mathlib.Core.Bool.{Bool, true, false, not, _&&_, cond}
 use lib.IntN.{ℤ, pos, negsuc}
-use lib.Dec.{T, ltb, leb, eqb, eqb→eq, leb·zero, leb·suc-zero, lit<}
+use lib.Dec.{T, ltb, leb, eqb, eqb→eq, leb·suc-zero, lit<}
 use lib.Pow.{pow-pos, pow-add}
-use lib.Ieee.{Float, nan, inf, fin, binary32, up, down, unlike, round, sum, add, mul, neg, fits}
+use lib.Ieee.{Float, nan, inf, fin, binary32, up, down, unlike, round, sum, add, mul, fits}
 use lib.Ieee.Fits.{down-pos, up-pos, and-l, round-fits}
 use lib.Ieee.Digits.{back}
 use lib.Ieee.Exact.{HasValue, round-exact}
 use lib.Ieee.Scale.{round-same}
-use borrow.Author.Tests.{lt-ltb, le-ltb}
+use borrow.Author.Tests.{lt-ltb}
 use Rattle.floats.proofs.Value.{add-at, mul-at}
 use Rattle.floats.proofs.Held.{Held, held, exponent, zero-exponent, unsigned}
 

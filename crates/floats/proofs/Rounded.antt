@@ -1,7 +1,7 @@
 -- What is rounded without a sign is plain, and grows with the number; at most 1, it is finite. Assumes nothing.
 use mathlib.Core.Path.{_≡_, refl, sym, ap, _∙_, subst}
 use Prim.Native.Nat.{ℕ, zero, suc, _+_, _*_, _^_, _≤_, _<_}
-use native.Mathlib.Nat.{mul-one, one-mul, mul-pos, zero-mul, zero-lt-suc}
+use native.Mathlib.Nat.{mul-pos, zero-mul, zero-lt-suc}
 use native.Mathlib.Omega.{arith}
 use mathlib.Core.Bool.{Bool, true, false, not, _||_, cond, false≢true, true≢false}
 use lib.IntN.{ℤ, pos}

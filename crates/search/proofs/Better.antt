@@ -2,7 +2,7 @@
 use mathlib.Core.Path.{_≡_, refl, sym, _∙_}
 use mathlib.Core.Bool.{Bool, true, false, _&&_, _||_, true≢false, false≢true}
 use lib.Dec.{T}
-use lib.Ieee.{lt, eq}
+use lib.Ieee.{inf, lt, eq}
 use Rattle.floats.proofs.Order.{plain, lt-apart, not-below, level-not-below, not-below-level}
 use Rattle.search.specs.declared.Scored.{Scored}
 use Rattle.search.specs.Search.{goesFirst, isBetter}
@@ -12,6 +12,7 @@ use Rattle.search.proofs.TieRule.{one-before, not-before}
 -- what holds of each candidate in the cone
 pub record Good (s : Scored) : Type 0 where
   pub score-plain : T (plain (s .score))
+  pub score-finite : lt (s .score) (inf false) ≡ true
   pub some-id : s .candidate .id ≡ 0 → ⊥
 
 -- better goes one way, and what is not better than what is not better than c is not better than c

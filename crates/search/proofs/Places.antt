@@ -14,8 +14,8 @@ use borrow.Author.Tests.{ltb-true, ltb-false, lt-ltb, le-ltb}
 use Rattle.emath.specs.declared.Rect.{Rect}
 use Rattle.search.specs.declared.Candidate.{Candidate}
 use Rattle.search.specs.declared.Scored.{Scored}
-use Rattle.search.specs.Search.{placeOf, tableOf}
-use Rattle.search.specs.Walk.{beatsOf, stepOf, walkOf}
+use Rattle.search.specs.Search.{placeOf, tableOf, isBetter}
+use Rattle.search.specs.Walk.{stepOf, walkOf}
 
 no-room : (ids : List ℕ) (rects : List Float) → length rects < 4 → tableOf ids rects ≡ []
 unfolding tableOf
@@ -61,13 +61,13 @@ module _ (ids : List ℕ) (rects : List Float) (i : ℕ) where
 -- ---- the walk, place by place; b is the best so far
 module _ (ids : List ℕ) (rects : List Float) (focused : ℕ) (current : Rect) (direction : ℕ) where
   abbrev pub walkFrom : Scored → ℕ → Scored
-  walkFrom b i = walkOf beatsOf focused current direction b (restOf ids rects i)
+  walkFrom b i = walkOf isBetter focused current direction b (restOf ids rects i)
 
   module _ (b : Scored) (i : ℕ) where
-    pub walk-more : i < min (length ids) (length rects / 4) → (r : Scored) → r ≡ stepOf beatsOf focused current direction b (placeAt ids rects i) → walkFrom r (i + 1) ≡ walkFrom b i
+    pub walk-more : i < min (length ids) (length rects / 4) → (r : Scored) → r ≡ stepOf isBetter focused current direction b (placeAt ids rects i) → walkFrom r (i + 1) ≡ walkFrom b i
     unfolding walkOf
-    walk-more h r e = ap (λ (k : Scored). walkFrom k (i + 1)) e ∙ ap (walkOf beatsOf focused current direction b) (sym (rest-more ids rects i h))
+    walk-more h r e = ap (λ (k : Scored). walkFrom k (i + 1)) e ∙ ap (walkOf isBetter focused current direction b) (sym (rest-more ids rects i h))
 
     pub walk-done : min (length ids) (length rects / 4) ≤ i → walkFrom b i ≡ b
     unfolding walkOf
-    walk-done h = ap (walkOf beatsOf focused current direction b) (rest-none ids rects i h)
+    walk-done h = ap (walkOf isBetter focused current direction b) (rest-none ids rects i h)

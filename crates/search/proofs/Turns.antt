@@ -1,4 +1,4 @@
--- Each return of `beats` and of `consider` is a turn of the walk. Assumes nothing.
+-- Each return of `is_better` and of `consider` is a turn of the walk. Assumes nothing.
 use mathlib.Core.Path.{_≡_, refl, sym, ap, _∙_}
 use Prim.Native.Nat.{ℕ}
 use mathlib.Core.Bool.{Bool, true, false, not, _||_, cond}
@@ -14,33 +14,29 @@ use Rattle.candidate.specs.Candidate.{toCandidate, judgeOf, isFarther}
 use Rattle.candidate.proofs.Reach.{farther-loses}
 use Rattle.search.specs.declared.Candidate.{Candidate}
 use Rattle.search.specs.declared.Scored.{Scored}
-use Rattle.search.specs.Search.{judgedOf, goesFirst}
-use Rattle.search.specs.Walk.{beatsOf, keptOf, takenOf, stepOf}
+use Rattle.search.specs.Search.{judgedOf, goesFirst, isBetter}
+use Rattle.search.specs.Walk.{keptOf, takenOf, stepOf}
 
 module _ (a b : Scored) where
-  pub smaller : lt (a .score) (b .score) ≡ true → true ≡ beatsOf a b
-  unfolding beatsOf
+  pub smaller : lt (a .score) (b .score) ≡ true → true ≡ isBetter a b
+  unfolding isBetter
   smaller h = rw h
 
-  pub first-of-all : lt (a .score) (b .score) ≡ false → eq (a .score) (b .score) ≡ true → b .candidate .id ≡ 0 → true ≡ beatsOf a b
-  unfolding beatsOf
-  first-of-all h e z = rw (h, e, eq-eqb (b .candidate .id) 0 z)
+  pub by-the-rule : (r : Bool) → lt (a .score) (b .score) ≡ false → eq (a .score) (b .score) ≡ true → r ≡ goesFirst (a .candidate) (b .candidate) → r ≡ isBetter a b
+  unfolding isBetter
+  by-the-rule r h e g = rw (h, e, g)
 
-  pub by-the-rule : (r : Bool) → lt (a .score) (b .score) ≡ false → eq (a .score) (b .score) ≡ true → (b .candidate .id ≡ 0 → ⊥) → r ≡ goesFirst (a .candidate) (b .candidate) → r ≡ beatsOf a b
-  unfolding beatsOf
-  by-the-rule r h e z g = rw (h, e, ne-eqb (b .candidate .id) 0 z, g)
-
-  pub larger : lt (a .score) (b .score) ≡ false → eq (a .score) (b .score) ≡ false → false ≡ beatsOf a b
-  unfolding beatsOf
+  pub larger : lt (a .score) (b .score) ≡ false → eq (a .score) (b .score) ≡ false → false ≡ isBetter a b
+  unfolding isBetter
   larger h e = rw (h, e)
 
 module _ (focused : ℕ) (current : Rect) (direction : ℕ) (best : Scored) (c : Candidate) where
   abbrev step : Scored
-  step = stepOf beatsOf focused current direction best c
+  step = stepOf isBetter focused current direction best c
 
   stays : judgedOf focused current direction c ≡ Outside → best ≡ step
   unfolding stepOf
-  stays e = ap (takenOf beatsOf best c) (sym e)
+  stays e = ap (takenOf isBetter best c) (sym e)
 
   -- ---- no candidate
   pub free-place : c .id ≡ 0 → best ≡ step
@@ -57,20 +53,20 @@ module _ (focused : ℕ) (current : Rect) (direction : ℕ) (best : Scored) (c :
     judged = λ i. cond (not (ne-eqb (c .id) 0 z i || ne-eqb (c .id) focused other i)) (judgeOf (sym d i) direction) Outside
 
     pub passed-over : isFarther v (best .score) ≡ true → best ≡ step
-    unfolding stepOf keptOf beatsOf
-    passed-over h = go (judgeOf v direction) refl ∙ ap (takenOf beatsOf best c) (sym judged)
+    unfolding stepOf keptOf isBetter
+    passed-over h = go (judgeOf v direction) refl ∙ ap (takenOf isBetter best c) (sym judged)
       where
-        go : (j : Judged) → judgeOf v direction ≡ j → best ≡ takenOf beatsOf best c j
+        go : (j : Judged) → judgeOf v direction ≡ j → best ≡ takenOf isBetter best c j
         go Outside e = refl
         go (Score x) e = let k = lt-apart (best .score) x (farther-loses v direction x (best .score) e h) in rw (k .0, k .1)
 
     pub outside : (j : Judged) → j ≡ judgeOf v direction → j ≡ Outside → best ≡ step
     outside j e k = stays (judged ∙ sym e ∙ k)
 
-    module _ (j : Judged) (e : j ≡ judgeOf v direction) (x : Float) (k : j ≡ Score x) (t : Bool) (b : t ≡ beatsOf (record { score = x; candidate = c }) best) where
+    module _ (j : Judged) (e : j ≡ judgeOf v direction) (x : Float) (k : j ≡ Score x) (t : Bool) (b : t ≡ isBetter (record { score = x; candidate = c }) best) where
       kept : cond t (record { score = x; candidate = c }) best ≡ step
       unfolding stepOf keptOf
-      kept = ap (λ (u : Bool). cond u (record { score = x; candidate = c }) best) b ∙ ap (takenOf beatsOf best c) (sym (judged ∙ sym e ∙ k))
+      kept = ap (λ (u : Bool). cond u (record { score = x; candidate = c }) best) b ∙ ap (takenOf isBetter best c) (sym (judged ∙ sym e ∙ k))
 
       pub taken : t ≡ true → record { score = x; candidate = c } ≡ step
       taken h = ap (λ (u : Bool). cond u (record { score = x; candidate = c }) best) (sym h) ∙ kept

@@ -1,24 +1,19 @@
 -- The walk that the code makes, one pass that keeps the best so far; `find`'s contract says nothing about it. Definitions only.
 use Prim.Native.Nat.{ℕ}
-use mathlib.Core.Bool.{Bool, false, _&&_, _||_, cond}
+use mathlib.Core.Bool.{Bool, false, cond}
 use mathlib.Core.List.{List, [], _∷_}
-use lib.Dec.{eqb}
-use lib.Ieee.{inf, lt, eq}
+use lib.Ieee.{inf}
 use Rattle.emath.specs.declared.Rect.{Rect}
 use Rattle.emath.specs.Rect.{everything}
 use Rattle.candidate.specs.declared.Judged.{Judged}
 use Rattle.candidate.specs.declared.Judged.the-variants.{Outside, Score}
 use Rattle.search.specs.declared.Candidate.{Candidate}
 use Rattle.search.specs.declared.Scored.{Scored}
-use Rattle.search.specs.Search.{judgedOf, goesFirst}
+use Rattle.search.specs.Search.{judgedOf}
 
 -- no candidate yet: id 0, which no candidate has
 abbrev pub nothingYet : Scored
 nothingYet = record { score = inf false; candidate = record { id = 0; rect = everything } }
-
--- a takes b's place
-unfoldable pub beatsOf : Scored → Scored → Bool
-beatsOf a b = lt (a .score) (b .score) || (eq (a .score) (b .score) && (eqb (b .candidate .id) 0 || goesFirst (a .candidate) (b .candidate)))
 
 -- ---- the walk, for any rule of who takes the place
 unfoldable pub keptOf : (Scored → Scored → Bool) → Scored → Scored → Scored

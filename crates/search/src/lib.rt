@@ -5,9 +5,9 @@ ghost use Prim.Native.Nat.{ℕ, min};
 ghost use mathlib.Core.List.{List, []};
 ghost use Rattle.emath.specs.declared.Rect.{Rect};
 ghost use Rattle.search.specs.declared.Candidate.{Candidate};
-ghost use Rattle.search.specs.Search.{tableOf, goesFirst, inConeOf, findOf};
-ghost use Rattle.search.specs.EguiWalk.{eguiFinds, allBelowInfinity, IsLeast};
-ghost use Rattle.search.specs.Walk.{nothingYet, beatsOf, stepOf};
+ghost use Rattle.search.specs.Search.{tableOf, goesFirst, isBetter, inConeOf, findOf};
+ghost use Rattle.search.specs.EguiWalk.{eguiFinds, IsLeast, risesFrom};
+ghost use Rattle.search.specs.Walk.{nothingYet, stepOf};
 use candidate::Judged;
 use emath::Pos2;
 use emath::Rect;
@@ -30,9 +30,9 @@ fn goes_first(a: Candidate, b: Candidate) -> bool
     a.id < b.id
 }
 
-// Whether a is to take b's place; id 0 stands for no candidate yet.
-fn beats(a: Scored, b: Scored) -> bool
-    ensures { λ r. ⌜ r ≡ beatsOf a b ⌝ }
+// The smaller score, ties by the tie rule.
+fn is_better(a: Scored, b: Scored) -> bool
+    ensures { λ r. ⌜ r ≡ isBetter a b ⌝ }
 {
     if a.score < b.score {
         return true;
@@ -40,9 +40,6 @@ fn beats(a: Scored, b: Scored) -> bool
     if a.score == b.score {
         let new = a.candidate;
         let old = b.candidate;
-        if old.id == 0 {
-            return true;
-        }
         return goes_first(new, old);
     }
     false
@@ -50,7 +47,7 @@ fn beats(a: Scored, b: Scored) -> bool
 
 // The better of the best so far and c.
 fn consider(best: Scored, c: Candidate, focused: u64, current: Rect, direction: u64) -> Scored
-    ensures { λ r. ⌜ r ≡ stepOf beatsOf focused current direction best c ⌝ }
+    ensures { λ r. ⌜ r ≡ stepOf isBetter focused current direction best c ⌝ }
 {
     if c.id == 0 {
         return best;
@@ -71,7 +68,7 @@ fn consider(best: Scored, c: Candidate, focused: u64, current: Rect, direction: 
                 score: score,
                 candidate: c,
             };
-            if beats(new, best) {
+            if is_better(new, best) {
                 return new;
             }
             best
@@ -79,7 +76,7 @@ fn consider(best: Scored, c: Candidate, focused: u64, current: Rect, direction: 
     }
 }
 
-// No candidate yet.
+// No candidate yet: id 0, and a score that every other is below.
 fn nothing() -> Scored
     ensures { λ r. ⌜ r ≡ nothingYet ⌝ }
 {
@@ -136,9 +133,16 @@ pub fn nothing_found()
 {}
 
 // The Rust's own loop finds nothing exactly where no candidate lies in the cone, and else one of the least score, in whatever order the
-// cache hands its candidates out, as long as each score is below infinity. There is nothing to run.
+// cache hands its candidates out. There is nothing to run.
 pub fn walk_finds_the_least()
     ensures { λ _. ⌜ ((table : List Candidate) (focused : ℕ) (current : Rect) (direction : ℕ)
-        → allBelowInfinity (inConeOf focused current direction table) ≡ true
         → IsLeast (inConeOf focused current direction table) (eguiFinds focused current direction table)) ⌝ }
+{}
+
+// Where the ids of the places that are not free rise from place to place, the Rust's own loop finds what `find` does. This speaks of
+// the tie rule in force, the smallest id: the loop keeps the first of equal scores. There is nothing to run.
+pub fn walk_by_rising_ids()
+    ensures { λ _. ⌜ ((table : List Candidate) (focused : ℕ) (current : Rect) (direction : ℕ)
+        → risesFrom 0 table ≡ true
+        → eguiFinds focused current direction table .candidate .id ≡ findOf table focused current direction) ⌝ }
 {}

@@ -31,14 +31,14 @@ enum-told c = search needs
 enum-known-judged : tie.Need-enum-known-judged
 enum-known-judged c = search needs
 
-beats-requires : tie.Need-beats-requires
-beats-requires c κs = search needs
+is-better-requires : tie.Need-is-better-requires
+is-better-requires c κs = search needs
 
 returns-4 : tie.Need-returns-4
 returns-4 c =
     let j = c .before .before .before .before .before in
     let e = j .before .before .before .before .before in
-    taken _ _ _ _ _ (e .before .before .if1 .left) (e .if2 .left) _ (j .before .before .before .to-candidate .ensures) _ (j .judge .ensures) _ (c .before .before .before .judged .given .1) _ (c .before .beats .ensures) (c .if4 .taken)
+    taken _ _ _ _ _ (e .before .before .if1 .left) (e .if2 .left) _ (j .before .before .before .to-candidate .ensures) _ (j .judge .ensures) _ (c .before .before .before .judged .given .1) _ (c .before .is-better .ensures) (c .if4 .taken)
 
 returns-5 : tie.Need-returns-5
 returns-5 c =
@@ -50,7 +50,7 @@ returns-6 : tie.Need-returns-6
 returns-6 c =
     let j = c .before .before .before .before .before in
     let e = j .before .before .before .before .before in
-    left _ _ _ _ _ (e .before .before .if1 .left) (e .if2 .left) _ (j .before .before .before .to-candidate .ensures) _ (j .judge .ensures) _ (c .before .before .before .judged .given .1) _ (c .before .beats .ensures) (c .if4 .left)
+    left _ _ _ _ _ (e .before .before .if1 .left) (e .if2 .left) _ (j .before .before .before .to-candidate .ensures) _ (j .judge .ensures) _ (c .before .before .before .judged .given .1) _ (c .before .is-better .ensures) (c .if4 .left)
 
 pub consider-spec : {M : Type 1} → statement M
 consider-spec =
@@ -64,7 +64,7 @@ consider-spec =
     judge-requires
     enum-told
     enum-known-judged
-    beats-requires
+    is-better-requires
     returns-4
     returns-5
     returns-6)

@@ -4,8 +4,8 @@ use Prim.Native.Nat.{_-_, _≤_}
 use native.Mathlib.Omega.{arith}
 use borrow.Author.Needs.{needs}
 use Rattle.search.specs.declared.Scored.{Scored}
-use Rattle.search.specs.Search.{tableOf}
-use Rattle.search.specs.Walk.{nothingYet, beatsOf, walkOf}
+use Rattle.search.specs.Search.{tableOf, isBetter}
+use Rattle.search.specs.Walk.{nothingYet, walkOf}
 use Rattle.search.proofs.Places.{walkFrom, rest-all, walk-more, walk-done}
 use Rattle.search.proofs.Steps.{walk-finds}
 use Rattle.search.proofs.find.Statement.{statement}
@@ -13,7 +13,7 @@ use Rattle.search.proofs.find.Tie as tie
 
 abbrev Inv-loop : tie.InvT-loop
 Inv-loop ids rects focused current direction n best₀ i₀ best i =
-    (i ≤ n) × (walkFrom ids rects focused current direction best i ≡ walkOf beatsOf focused current direction nothingYet (tableOf ids rects))
+    (i ≤ n) × (walkFrom ids rects focused current direction best i ≡ walkOf isBetter focused current direction nothingYet (tableOf ids rects))
 
 abbrev μ-loop : tie.MeasureT-loop
 μ-loop ids rects focused current direction n best₀ i₀ best i = n - i
@@ -27,7 +27,7 @@ nothing-requires c κs = search needs
 loop-holds : tie.Need-loop-holds Inv-loop μ-loop
 loop-holds c =
     let a = c .before .before .before .before .args in
-    (omega arith, λ i. walkOf beatsOf (a .focused) (a .current) (a .direction) (c .nothing .ensures i) (rest-all (a .ids .now) (a .rects .now) i))
+    (omega arith, λ i. walkOf isBetter (a .focused) (a .current) (a .direction) (c .nothing .ensures i) (rest-all (a .ids .now) (a .rects .now) i))
 
 mul-at : tie.Need-mul-at Inv-loop μ-loop
 mul-at c = omega arith

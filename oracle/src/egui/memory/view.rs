@@ -1,6 +1,8 @@
 //! The whole state of `Memory`, for the line `state` and for the refusals that ask how full a table is. Private fields are read here.
-use super::{Areas, Focus, FocusWidget, Memory};
+use super::{Areas, Focus, FocusDirection, FocusWidget, Memory};
+use crate::emath::{Rect, pos2};
 use crate::line::Line;
+use crate::stand_ins::IdMap;
 use crate::{Id, LayerId};
 use std::collections::BTreeMap;
 
@@ -57,6 +59,52 @@ impl Focus {
                 line.word(id).rect(rect)
             })
     }
+}
+
+/// `find_widget_in_direction` by itself: a focus record and the rectangles of the pass.
+pub struct Search {
+    focus: Focus,
+    rects: IdMap<Rect>,
+}
+
+const DIRECTIONS: [FocusDirection; 7] = [
+    FocusDirection::Up,
+    FocusDirection::Right,
+    FocusDirection::Down,
+    FocusDirection::Left,
+    FocusDirection::Previous,
+    FocusDirection::Next,
+    FocusDirection::None,
+];
+
+impl Search {
+    /// Fields with their left, top, right and bottom edges, one of them focused.
+    pub fn new(fields: impl Iterator<Item = (u64, [f32; 4])>, focused: u64) -> Self {
+        let rects: IdMap<Rect> = fields
+            .map(|(id, [left, top, right, bottom])| {
+                let min = pos2(left, top);
+                let max = pos2(right, bottom);
+                (id_of(id), Rect { min, max })
+            })
+            .collect();
+        let focus = Focus {
+            focused_widget: Some(FocusWidget::new(id_of(focused))),
+            focus_widgets_cache: rects.clone(),
+            ..Focus::default()
+        };
+        Self { focus, rects }
+    }
+
+    /// The id that is found, or 0.
+    pub fn find(&mut self, direction: u64) -> u64 {
+        self.focus.focus_direction = DIRECTIONS[direction as usize];
+        let found = self.focus.find_widget_in_direction(&self.rects);
+        found.map_or(0, |id| id.value())
+    }
+}
+
+fn id_of(n: u64) -> Id {
+    Id::of(n).expect("an id is not 0")
 }
 
 impl Line {

@@ -1,0 +1,30 @@
+// What a C or Rust program on the board links against: numbers and slices in, a number out. Each function is the one it calls.
+ghost use mathlib.Core.Path.{_≡_};
+ghost use Rattle.search.specs.Search.{tableOf, findOf};
+use emath::Pos2;
+use emath::Rect;
+
+// `search::find` from the rectangle left, top, right, bottom.
+#[no_mangle]
+pub extern "C" fn jaturemi_find(
+    ids: &[u64],
+    rects: &[f32],
+    focused: u64,
+    left: f32,
+    top: f32,
+    right: f32,
+    bottom: f32,
+    direction: u64,
+) -> u64
+    ensures { λ r. ⌜ r ≡ findOf (tableOf (now (ids .entry)) (now (rects .entry))) focused
+        (record { min = record { x = left; y = top }; max = record { x = right; y = bottom } }) direction ⌝ }
+{
+    let current = Rect {
+        min: Pos2 { x: left, y: top },
+        max: Pos2 {
+            x: right,
+            y: bottom,
+        },
+    };
+    search::find(ids, rects, focused, current, direction)
+}

@@ -1,0 +1,189 @@
+//! Tables of fields for the directional search, from one seed: the same for egui's text and for the port.
+use crate::rng::Rng;
+
+/// A field: its id, and its left, top, right and bottom edge.
+#[derive(Clone, Copy)]
+pub struct Field {
+    pub id: u64,
+    pub edges: [f32; 4],
+}
+
+pub struct Table {
+    pub fields: Vec<Field>,
+    /// The place of the focused field.
+    pub focused: usize,
+}
+
+/// A low and a high end, in 32nds of a point.
+type Span = (i64, i64);
+
+/// The last corner of the grid.
+const LAST: i64 = 524_288;
+
+/// Differences (n, n), in 64ths, whose cosine is rounded to the f32 below the bound: egui has them outside the cone.
+const OUTSIDE: [i64; 8] = [
+    185_923, 371_277, 371_846, 742_503, 742_554, 743_692, 743_743, 744_881,
+];
+
+fn points(steps: i64) -> f32 {
+    steps as f32 / 32.0
+}
+
+fn field(id: u64, x: Span, y: Span) -> Field {
+    Field {
+        id,
+        edges: [x.0, y.0, x.1, y.1].map(points),
+    }
+}
+
+/// Any two ends within the reach; some at the grid's end, some of no width.
+fn span(rng: &mut Rng, reach: i64) -> Span {
+    let (a, b) = (rng.between(-reach, reach), rng.between(-reach, reach));
+    match rng.below(20) {
+        0 => (a, a),
+        1 => (-LAST, a),
+        2 => (a, LAST),
+        3 => rng.pick(&[(LAST, LAST), (-LAST, -LAST), (-LAST, LAST)]),
+        _ => (a.min(b), a.max(b)),
+    }
+}
+
+/// A span that touches another, lies in it, overlaps it by half or so, or is the same.
+fn beside(rng: &mut Rng, (low, high): Span) -> Span {
+    let width = high - low;
+    let near = rng.between(-1, 1);
+    let moved = match rng.below(6) {
+        0 => (high, high + width),
+        1 => (low - width, low),
+        2 => (low + width / 4, high - width / 4),
+        3 => (low + width / 2 + near, high + width / 2 + near),
+        4 => (high, high),
+        _ => (low, high),
+    };
+    (moved.0.clamp(-LAST, LAST), moved.1.clamp(-LAST, LAST))
+}
+
+fn anywhere(rng: &mut Rng) -> Vec<Field> {
+    let reach = rng.pick(&[4, 64, 4_096, LAST]);
+    let count = 2 + rng.below(6) as u64;
+    let fields = (1..=count).map(|id| field(id, span(rng, reach), span(rng, reach)));
+    fields.collect()
+}
+
+fn neighbours(rng: &mut Rng) -> Vec<Field> {
+    let reach = rng.pick(&[16, 640, LAST]);
+    let (x, y) = (span(rng, reach), span(rng, reach));
+    let count = 1 + rng.below(6) as u64;
+    let mut fields = vec![field(1, x, y)];
+    fields.extend((2..=1 + count).map(|id| field(id, beside(rng, x), beside(rng, y))));
+    fields
+}
+
+/// A page of rows and columns, where many scores are equal.
+fn page(rng: &mut Rng) -> Vec<Field> {
+    let (columns, rows) = (rng.between(1, 5), rng.between(1, 5));
+    let (wide, high) = (rng.between(1, 90), rng.between(1, 90));
+    let places = (0..rows).flat_map(|row| (0..columns).map(move |column| (column, row)));
+    let fields = places.zip(1..).map(|((column, row), id)| {
+        let (x, y) = (column * 96, row * 96);
+        field(id, (x, x + wide), (y, y + high))
+    });
+    fields.collect()
+}
+
+/// A field of no size or of one step, whose middle lies so many 64ths from the origin.
+fn spot(id: u64, x: i64, y: i64) -> Field {
+    let span = |at: i64| (at.div_euclid(2), at.div_euclid(2) + at.rem_euclid(2));
+    field(id, span(x), span(y))
+}
+
+/// The difference (along, across), turned to one of the eight octants.
+fn turned(rng: &mut Rng, along: i64, across: i64) -> (i64, i64) {
+    let (along, across) = (along * rng.pick(&[1, -1]), across * rng.pick(&[1, -1]));
+    if rng.percent(50) {
+        (along, across)
+    } else {
+        (across, along)
+    }
+}
+
+/// Differences at the edge of the cone: the diagonals, a step beside them, and those diagonals that rounding puts outside.
+fn edge(rng: &mut Rng) -> Vec<Field> {
+    let reach = rng.pick(&[80, 1_400, 40_000, LAST]);
+    let mut fields = vec![spot(1, 0, 0)];
+    for id in 2..=4 {
+        let along = match rng.below(4) {
+            0 => rng.pick(&OUTSIDE),
+            _ => rng.between(2, reach),
+        };
+        let beside = rng.pick(&[0, 0, 1, -1]);
+        let (x, y) = turned(rng, along, along + beside);
+        fields.push(spot(id, x, y));
+    }
+    fields
+}
+
+/// The square of a score, in f64: length to the sixth by the part along the arrow to the fourth.
+fn squared(along: i64, across: i64) -> f64 {
+    let (x, y) = (along as f64, across as f64);
+    (x * x + y * y).powi(3) / x.powi(4)
+}
+
+/// Fields in one cone whose scores hardly differ: the part across is found by halving.
+fn rivals(rng: &mut Rng) -> Vec<Field> {
+    let reach = rng.pick(&[800, 20_000, LAST]);
+    let along = rng.between(reach / 2, reach);
+    let score = squared(along, rng.between(0, along / 2));
+    let mut fields = vec![spot(1, 0, 0)];
+    for id in 2..=7 {
+        let along = rng.between(along * 3 / 4, along);
+        let (mut low, mut high) = (0, along);
+        while low + 1 < high {
+            let middle = (low + high) / 2;
+            if squared(along, middle) < score {
+                low = middle;
+            } else {
+                high = middle;
+            }
+        }
+        let across = rng.pick(&[low, high]) * rng.pick(&[1, -1]);
+        fields.push(spot(id, along, across));
+    }
+    fields
+}
+
+/// The next table: ids and places in no order, one field focused.
+pub fn table(rng: &mut Rng) -> Table {
+    let mut fields = match rng.below(6) {
+        0 => anywhere(rng),
+        1 => neighbours(rng),
+        2 => page(rng),
+        3 => edge(rng),
+        _ => rivals(rng),
+    };
+    rng.shuffle(&mut fields);
+    let focused = rng.below(fields.len());
+    Table { fields, focused }
+}
+
+/// Layouts to be timed: rows and columns, a staggered page, fields anywhere. The focused field lies in the middle.
+pub fn layout(name: &str, count: usize) -> Table {
+    let mut rng = Rng::of(1, count as u64);
+    let width = count.isqrt().max(2);
+    let places = (0..count).map(|i| {
+        let (column, row) = ((i % width) as i64, (i / width) as i64);
+        let (x, y) = match name {
+            "rows" => (column * 2_048, row * 1_024),
+            "staggered" => (column * 2_048 + row * 96, row * 1_280 + column * 160),
+            _ => (rng.between(0, 400_000), rng.between(0, 400_000)),
+        };
+        field(i as u64 + 1, (x, x + 1_536), (y, y + 768))
+    });
+    Table {
+        fields: places.collect(),
+        focused: (count / 2 + width / 2).min(count - 1),
+    }
+}
+
+pub const LAYOUTS: [&str; 3] = ["rows", "staggered", "anywhere"];
+pub const COUNTS: [usize; 3] = [2, 16, 256];
