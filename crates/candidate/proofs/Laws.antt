@@ -6,7 +6,8 @@ use Rattle.floats.specs.Count.{half}
 use Rattle.emath.specs.declared.Rangef.{Rangef}
 use Rattle.emath.specs.Range.{minF, spanOf, centerOf, intersectionOf}
 use Rattle.emath.specs.declared.Vec2.{Vec2}
-use Rattle.candidate.specs.Candidate.{zero, hasSignificantOverlap, rangeDiff, sizeOf, isFarther}
+use Rattle.grid.specs.Grid.{magnitudeOf}
+use Rattle.candidate.specs.Candidate.{zero, hasSignificantOverlap, rangeDiff, isFarther}
 
 -- ---- `range_diff`
 module _ (a b o : Rangef) (wide narrow least common : Float) (t : Bool) (O : o ≡ intersectionOf a b) (W : wide ≡ spanOf b) (N : narrow ≡ spanOf a) (L : least ≡ minF wide narrow) (C : common ≡ spanOf o) (h : le (mul binary32 half least) common ≡ t) where
@@ -23,11 +24,11 @@ module _ (a b o : Rangef) (wide narrow least common : Float) (t : Bool) (O : o �
   separate e x y X Y = (λ i. sub binary32 (X i) (Y i)) ∙ ap (λ (t : Bool). cond t zero (sub binary32 (centerOf a) (centerOf b))) (sym (overlap-is ∙ e))
 
 -- ---- `is_farther`
-module _ (v : Vec2) (limit x : Float) (X : x ≡ sizeOf (v .x)) where
+module _ (v : Vec2) (limit x : Float) (X : x ≡ magnitudeOf (v .x)) where
   pub far-across : lt limit x ≡ true → true ≡ isFarther v limit
   unfolding isFarther
-  far-across h = sym (ap (λ (b : Bool). b || lt limit (sizeOf (v .y))) (ap (lt limit) (sym X) ∙ h))
+  far-across h = sym (ap (λ (b : Bool). b || lt limit (magnitudeOf (v .y))) (ap (lt limit) (sym X) ∙ h))
 
-  pub far-along : lt limit x ≡ false → (y : Float) → y ≡ sizeOf (v .y) → lt limit y ≡ isFarther v limit
+  pub far-along : lt limit x ≡ false → (y : Float) → y ≡ magnitudeOf (v .y) → lt limit y ≡ isFarther v limit
   unfolding isFarther
-  far-along h y Y = ap (lt limit) Y ∙ sym (ap (λ (b : Bool). b || lt limit (sizeOf (v .y))) (ap (lt limit) (sym X) ∙ h))
+  far-along h y Y = ap (lt limit) Y ∙ sym (ap (λ (b : Bool). b || lt limit (magnitudeOf (v .y))) (ap (lt limit) (sym X) ∙ h))

@@ -1,7 +1,7 @@
 -- A part of a difference on the grid, divided by the length: a quotient of whole numbers, at most 1. Assumes nothing.
 use mathlib.Core.Path.{_≡_, refl, sym, ap, _∙_, subst}
-use Prim.Native.Nat.{ℕ, zero, suc, _+_, _*_, _^_, _≤_, _<_}
-use native.Mathlib.Nat.{le-trans, le-of-eq, le-of-suc-le-suc, lt-of-not-le, lt-of-lt-of-le, mul-assoc, mul-comm, mul-left-comm, mul-pos, mul-le-mul, mul-le-mul-right, mul-mul-mul-comm, pow-suc}
+use Prim.Native.Nat.{ℕ, suc, _+_, _*_, _^_, _≤_, _<_}
+use native.Mathlib.Nat.{le-trans, le-of-eq, le-of-suc-le-suc, lt-of-not-le, lt-of-lt-of-le, mul-assoc, mul-comm, mul-left-comm, mul-pos, mul-le-mul, mul-le-mul-right, mul-mul-mul-comm}
 use native.Mathlib.Omega.{arith}
 use mathlib.Core.Bool.{Bool, true, false}
 use lib.Dec.{lit<}
@@ -13,6 +13,7 @@ use Rattle.floats.specs.Count.{at}
 use Rattle.floats.proofs.Value.{div-at}
 use Rattle.floats.proofs.Rounded.{Finite, finite-round}
 use Rattle.vec2.specs.Length.{digitsUp, nearestOf}
+use Rattle.vec2.proofs.Digits.{four}
 use Rattle.vec2.proofs.Laws.{scaled, rooted, rooted-near, rooted-least, length-value}
 
 -- ---- two parts of at most 2 ^ 21
@@ -24,13 +25,6 @@ squares-below x y h k = sum (square-most h) (square-most k)
   where
     sum : {a b : ℕ} → a ≤ 2 ^ 42 → b ≤ 2 ^ 42 → a + b < 2 ^ 44
     sum h k = omega arith
-
-pub four : (t : ℕ) → 4 ^ t ≡ 2 ^ t * 2 ^ t
-four zero = refl
-four (suc t) = pow-suc 4 t ∙ ap (λ (x : ℕ). x * 4) (four t) ∙ sorted (2 ^ t) ∙ (λ i. sym (pow-suc 2 t) i * sym (pow-suc 2 t) i)
-  where
-    sorted : (x : ℕ) → x * x * 4 ≡ x * 2 * (x * 2)
-    sorted x = omega arith
 
 -- a whole number whose square is at most S is at most the one nearest to its root
 not-past : (r q S : ℕ) → r * r ≤ S → S ≤ q * q + q → r ≤ q

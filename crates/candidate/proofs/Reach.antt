@@ -19,12 +19,12 @@ use Rattle.floats.proofs.Value.{lt-at, mul-at, rescaled, exact}
 use Rattle.floats.proofs.Order.{plain, not-below}
 use Rattle.floats.proofs.Rounded.{plain-round, lt-through}
 use Rattle.emath.specs.declared.Vec2.{Vec2}
-use Rattle.grid.specs.Grid.{pivotPosRefusal}
+use Rattle.grid.specs.Grid.{magnitudeOf, pivotPosRefusal}
 use Rattle.vec2.specs.Length.{digitsUp, nearestOf, lengthOf}
 use Rattle.vec2.proofs.Laws.{OnGrid, on-grid, off-grid, grid-or-not, rooted, nearest-is, length-value}
 use Rattle.candidate.specs.declared.Judged.the-variants.{Outside, Score}
 use Rattle.candidate.specs.Candidate as spec
-use Rattle.candidate.specs.Candidate.{alongOf, acosAngle, coneBound, isInSearchCone, scoreOf, judged, judgeOf, sizeOf, isFarther}
+use Rattle.candidate.specs.Candidate.{alongOf, acosAngle, coneBound, isInSearchCone, scoreOf, judged, judgeOf, isFarther}
 use Rattle.candidate.proofs.Bound.{bound, bound-is}
 use Rattle.candidate.proofs.Quotient.{squares-below, up-to, quotient}
 use Rattle.candidate.proofs.Cosine.{over-nan, no-cosine, above-zero, Part, part-of, Ahead, ahead, behind}
@@ -104,7 +104,7 @@ pub record Size (x : Float) (p : ℕ) : Type 0 where
   pub y : Float
   pub plainly : T (plain y)
   pub value : HasValue y false p 64
-  pub same : (l : Float) → lt l (sizeOf x) ≡ lt l y
+  pub same : (l : Float) → lt l (magnitudeOf x) ≡ lt l y
 
 zero-value : (c : ℕ) → HasValue spec.zero false 0 c
 unfolding ofBits
@@ -162,7 +162,7 @@ module _ (v : Vec2) (k : ℕ) (i : Inside v k) where
     size = size-of x (part .sign) (part .steps) (part .value)
 
     -- at most twice the part ahead
-    not-far : lt (mul binary32 (ofBits binary32 0x4000_0000) (alongOf v k)) (sizeOf x) ≡ false
+    not-far : lt (mul binary32 (ofBits binary32 0x4000_0000) (alongOf v k)) (magnitudeOf x) ≡ false
     not-far =
         size .same (mul binary32 (ofBits binary32 0x4000_0000) (alongOf v k))
         ∙ lt-at (mul binary32 (ofBits binary32 0x4000_0000) (alongOf v k)) (size .y) false false (2 * i .front .steps) (part .steps) 64 (lit< tt) doubled (size .value)
@@ -180,7 +180,7 @@ module _ (v : Vec2) (k : ℕ) (i : Inside v k) where
         fine : (x u : ℕ) → x * u * 64 ≡ x * (64 * u)
         fine x u = mul-assoc x u 64 ∙ ap (λ (y : ℕ). x * y) (mul-comm u 64)
 
-    past : (limit s : Float) → T (plain s) → lt s (nearestOf (n v (i .grid))) ≡ false → lt limit (sizeOf x) ≡ true → lt limit s ≡ true
+    past : (limit s : Float) → T (plain s) → lt s (nearestOf (n v (i .grid))) ≡ false → lt limit (magnitudeOf x) ≡ true → lt limit s ≡ true
     past limit s q h l =
         lt-through limit (size .y) s (size .plainly) q (sym (size .same limit) ∙ l) (not-below s (nearestOf (n v (i .grid))) (size .y) q length-plain (size .plainly) h in-length)
       where
@@ -206,7 +206,7 @@ module _ (v : Vec2) (k : ℕ) (i : Inside v k) where
   -- a part past a limit
   far-score : (limit : Float) → isFarther v limit ≡ true → lt limit (scoreOf v k) ≡ true
   unfolding isFarther
-  far-score limit h = either (lt limit (sizeOf (v .x))) (lt limit (sizeOf (v .y))) h (λ e. past (v .x) (part-x v (i .grid)) limit (scoreOf v k) plain-score long-score e) (λ e. past (v .y) (part-y v (i .grid)) limit (scoreOf v k) plain-score long-score e)
+  far-score limit h = either (lt limit (magnitudeOf (v .x))) (lt limit (magnitudeOf (v .y))) h (λ e. past (v .x) (part-x v (i .grid)) limit (scoreOf v k) plain-score long-score e) (λ e. past (v .y) (part-y v (i .grid)) limit (scoreOf v k) plain-score long-score e)
     where
       either : (a b : Bool) → (a || b) ≡ true → (a ≡ true → lt limit (scoreOf v k) ≡ true) → (b ≡ true → lt limit (scoreOf v k) ≡ true) → lt limit (scoreOf v k) ≡ true
       either true b h f g = f refl

@@ -17,9 +17,10 @@ use Rattle.floats.proofs.Value.{mul-at, div-at}
 use Rattle.floats.proofs.Order.{plain}
 use Rattle.floats.proofs.Rounded.{Finite, plain-round, at-most-one, finite-round, round-not-above}
 use Rattle.vec2.specs.Length.{digitsUp, nearestOf}
+use Rattle.vec2.proofs.Digits.{four}
 use Rattle.vec2.proofs.Laws.{scaled, rooted, rooted-near, rooted-most, rooted-least, nearest-is, length-value}
 use Rattle.candidate.proofs.Bound.{bound, reached}
-use Rattle.candidate.proofs.Quotient.{four, up-to, rooted-pos}
+use Rattle.candidate.proofs.Quotient.{up-to, rooted-pos}
 
 -- ---- how wide the cone is: X = p * 2 ^ t is the part ahead and S = n * 4 ^ t the sum of the squares, both scaled, q the root of S
 narrow : (q X S : ℕ) → 23726565 * q * (23726565 * q) ≤ X * 2 ^ 25 * (X * 2 ^ 25) → 8388608 * q ≤ q * q → S ≤ q * q + q → S * 1048575 ≤ 2 * (X * X) * 1048576

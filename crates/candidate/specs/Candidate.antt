@@ -9,6 +9,7 @@ use Rattle.emath.specs.declared.Rect.{Rect}
 use Rattle.emath.specs.declared.Vec2.{Vec2}
 use Rattle.emath.specs.Range.{minF, spanOf, centerOf, intersectionOf}
 use Rattle.emath.specs.Rect.{xRange, yRange}
+use Rattle.grid.specs.Grid.{magnitudeOf}
 use Rattle.input.specs.FocusDirection.{up, right, down, left}
 use Rattle.vec2.specs.Length.{lengthOf}
 use Rattle.vec2.specs.Vec2.{normalizedOf, dotOf}
@@ -69,8 +70,5 @@ judgeOf v k = judged (isInSearchCone v k) (scoreOf v k)
 unfoldable pub alongOf : Vec2 → ℕ → Float
 alongOf v k = cond (eqb k up) (neg (v .y)) (cond (eqb k right) (v .x) (cond (eqb k down) (v .y) (cond (eqb k left) (neg (v .x)) zero)))
 
-abbrev pub sizeOf : Float → Float
-sizeOf x = cond (lt x zero) (neg x) x
-
 unfoldable pub isFarther : Vec2 → Float → Bool
-isFarther v limit = lt limit (sizeOf (v .x)) || lt limit (sizeOf (v .y))
+isFarther v limit = lt limit (magnitudeOf (v .x)) || lt limit (magnitudeOf (v .y))

@@ -10,7 +10,7 @@ ghost use Rattle.emath.specs.declared.Rangef.{Rangef};
 ghost use Rattle.emath.specs.declared.Rect.{Rect};
 ghost use Rattle.emath.specs.declared.Vec2.{Vec2};
 ghost use Rattle.grid.specs.Grid.{pivotPosRefusal, rectRefusal};
-ghost use Rattle.candidate.specs.Candidate.{rangeDiff, toCandidate, isInSearchCone, judgeOf, alongOf, sizeOf, isFarther};
+ghost use Rattle.candidate.specs.Candidate.{rangeDiff, toCandidate, isInSearchCone, judgeOf, alongOf, isFarther};
 ghost use Rattle.candidate.specs.Steps.{stepsApart};
 use emath::Rangef;
 use emath::Rect;
@@ -60,20 +60,14 @@ fn along(v: Vec2, direction: u64) -> f32
     }
 }
 
-fn abs(x: f32) -> f32
-    ensures { λ r. ⌜ r ≡ sizeOf x ⌝ }
-{
-    if x < 0.0 { -x } else { x }
-}
-
 // Whether a part of the difference is past the limit. If so, its score is past the limit too.
 pub fn is_farther(v: Vec2, limit: f32) -> bool
     ensures { λ r. ⌜ r ≡ isFarther v limit ⌝ }
 {
-    if limit < abs(v.x) {
+    if limit < grid::magnitude(v.x) {
         return true;
     }
-    limit < abs(v.y)
+    limit < grid::magnitude(v.y)
 }
 
 // The cosine is at most half where one part is twice the part ahead or more, so no root is taken for what lies behind or far to a side.

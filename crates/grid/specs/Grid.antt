@@ -3,11 +3,15 @@ use Prim.Native.Nat.{ℕ, _*_}
 use mathlib.Core.Bool.{_||_, cond}
 use lib.IntN.{ℤ, pos, negsuc, natAbs}
 use lib.Dec.{leb}
-use lib.Ieee.{Float, lt}
+use lib.Ieee.{Float, binary32, ofBits, neg, lt}
 use Rattle.refusal.specs.Refusal.{none, offGrid, reversed, lowest}
 use Rattle.floats.specs.Count.{Count, off, at, countOf}
 use Rattle.emath.specs.declared.Pos2.{Pos2}
 use Rattle.emath.specs.declared.Rect.{Rect}
+
+-- without its sign, but for -0.0
+abbrev pub magnitudeOf : Float → Float
+magnitudeOf x = cond (lt x (ofBits binary32 0)) (neg x) x
 
 -- a number that is on no step of the grid is refused, and any other by how many steps it is
 abbrev pub onGrid : Count → (ℤ → ℕ) → ℕ

@@ -1,21 +1,21 @@
 // Document 01's grid: which corners, sizes, pivot positions and rectangles are taken, and by what number the others are refused.
 // Any f32 goes in, NaN and the infinities too.
 ghost use mathlib.Core.Path.{_≡_};
-ghost use mathlib.Core.Bool.{cond};
 ghost use Prim.Native.Nat.{ℕ, _*_, _≤_};
 ghost use lib.IntN.{ℤ, pos, natAbs};
-ghost use lib.Ieee.{Float, binary32, ofBits, add, sub, neg, lt, eq};
+ghost use lib.Ieee.{Float, binary32, ofBits, add, sub, eq};
 ghost use Rattle.refusal.specs.Refusal.{none};
 ghost use Rattle.floats.specs.Count.{at, countOf};
-ghost use Rattle.grid.specs.Grid.{within, cornerRefusal, pivotRefusal, sideRefusal, posRefusal, pivotPosRefusal, sizeRefusal, crossed, rectRefusal};
+ghost use Rattle.grid.specs.Grid.{magnitudeOf, within, cornerRefusal, pivotRefusal, sideRefusal, posRefusal, pivotPosRefusal, sizeRefusal, crossed, rectRefusal};
 use emath::Pos2;
 use emath::Rect;
 use refusal::NONE;
 use refusal::OFF_GRID;
 use refusal::REVERSED;
 
-fn abs(x: f32) -> f32
-    ensures { λ r. ⌜ r ≡ cond (lt x (ofBits binary32 0)) (neg x) x ⌝ }
+// x without its sign; -0.0 is left as it is.
+pub fn magnitude(x: f32) -> f32
+    ensures { λ r. ⌜ r ≡ magnitudeOf x ⌝ }
 {
     if x < 0.0 { -x } else { x }
 }
@@ -31,7 +31,7 @@ fn is_whole(y: f32) -> bool
 pub fn corner(x: f32) -> u64
     ensures { λ r. ⌜ r ≡ cornerRefusal x ⌝ }
 {
-    let size = abs(x);
+    let size = magnitude(x);
     if size <= 16384.0 {
         if is_whole(size * 32.0) {
             return NONE;
@@ -44,7 +44,7 @@ pub fn corner(x: f32) -> u64
 fn pivot(x: f32) -> u64
     ensures { λ r. ⌜ r ≡ pivotRefusal x ⌝ }
 {
-    let size = abs(x);
+    let size = magnitude(x);
     if size <= 32768.0 {
         if is_whole(size * 64.0) {
             return NONE;

@@ -5,6 +5,7 @@ use mathlib.Core.Bool.{Bool, true, false, _&&_, Bool·beq}
 use mathlib.Core.List.{List, [], _∷_}
 use lib.Dec.{eqb}
 use lib.Ieee.{Float, binary32, round, toBits}
+use Rattle.emath.specs.declared.Rect.{Rect}
 use Rattle.area.specs.declared.AreaState.{AreaState}
 use Rattle.area.specs.declared.PosAnswer.{PosAnswer}
 use Rattle.area.specs.declared.PivotPos.the-variants as PivotPos
@@ -16,6 +17,10 @@ use Rattle.input.specs.declared.Matched.{Matched}
 use Rattle.input.specs.declared.Matched.the-variants as Matched
 use Rattle.input.specs.Event.{eventRefusal}
 use Rattle.input.specs.EventFilter.{defaultFilter, matchesOf, matchedAnswer}
+use Rattle.input.specs.FocusDirection.{up, right, down, left}
+use Rattle.candidate.specs.Candidate.{rangeDiff, isInSearchCone}
+use Rattle.search.specs.declared.Candidate.{Candidate}
+use Rattle.search.specs.Search.{findOf}
 
 -- n / d and -n / d as f32, and whether two f32 are the same, the sign of a zero too
 abbrev pub plus : ℕ → ℕ → Float
@@ -32,6 +37,12 @@ pub data Situation : Type 0 where
   leftTopAt : Float → ℕ → Float → Float → ℕ → Float → Float → Float → Situation
   -- a key pressed with all filters off, and whether the filter matches
   keyMatches : ℕ → Bool → Situation
+  -- a candidate's span, the current one's, and the difference
+  apart : Float → Float → Float → Float → Float → Situation
+  -- a difference, a direction, and whether it lies in the cone
+  inCone : Float → Float → ℕ → Bool → Situation
+  -- a direction, candidates with their ids, seen from the point (0, 0), and which is found
+  finds : ℕ → List Candidate → ℕ → Situation
 
 abbrev pub areaAt : Float → ℕ → Float → Float → ℕ → Float → AreaState
 areaAt px fx w py fy h = record { «pivot_pos» = PivotPos.At px py; pivot = record { x = fx; y = fy }; size = Size.Of w h; interactable = true }
@@ -44,9 +55,16 @@ abbrev pub isMatched : Bool → Matched → Bool
 isMatched b (Matched.Is r) = Bool·beq b r
 isMatched b (Matched.Refused n) = false
 
+-- a rectangle of no size
+abbrev pub pointAt : Float → Float → Rect
+pointAt x y = record { min = record { x = x; y = y }; max = record { x = x; y = y } }
+
 unfoldable pub holds : Situation → Bool
 holds (leftTopAt px fx w py fy h x y) = isAt x y (posAnswer (stateRefusal (areaAt px fx w py fy h)) (leftTop (areaAt px fx w py fy h)))
 holds (keyMatches key b) = isMatched b (matchedAnswer (eventRefusal (Key key true false 0)) (matchesOf defaultFilter (Key key true false 0)))
+holds (apart a0 a1 b0 b1 d) = same (rangeDiff (record { min = a0; max = a1 }) (record { min = b0; max = b1 })) d
+holds (inCone x y k b) = Bool·beq b (isInSearchCone (record { x = x; y = y }) k)
+holds (finds k table id) = eqb (findOf table 0 (pointAt (plus 0 1) (plus 0 1)) k) id
 
 unfoldable pub allHold : List Situation → Bool
 allHold [] = true
@@ -62,4 +80,23 @@ situations =
     -- the last key passes with every filter off, Tab does not
     ∷ keyMatches 144 true
     ∷ keyMatches 5 false
+    -- spans 0 to 4 and 2 to 6: difference 0
+    ∷ apart (plus 0 1) (plus 4 1) (plus 2 1) (plus 6 1) (plus 0 1)
+    -- a candidate 0 to 4, the current one 2.03125 to 6.03125: -2.03125
+    ∷ apart (plus 0 1) (plus 4 1) (plus 203125 100000) (plus 603125 100000) (minus 203125 100000)
+    -- a span of no width that touches the other's edge, on either side: difference 0
+    ∷ apart (plus 4 1) (plus 4 1) (plus 0 1) (plus 4 1) (plus 0 1)
+    ∷ apart (plus 0 1) (plus 0 1) (plus 0 1) (plus 4 1) (plus 0 1)
+    -- (1, 1) lies in the cone of Right and of Down, and in no other
+    ∷ inCone (plus 1 1) (plus 1 1) right true
+    ∷ inCone (plus 1 1) (plus 1 1) down true
+    ∷ inCone (plus 1 1) (plus 1 1) left false
+    ∷ inCone (plus 1 1) (plus 1 1) up false
+    -- (0, 0) lies in no cone
+    ∷ inCone (plus 0 1) (plus 0 1) up false
+    ∷ inCone (plus 0 1) (plus 0 1) right false
+    ∷ inCone (plus 0 1) (plus 0 1) down false
+    ∷ inCone (plus 0 1) (plus 0 1) left false
+    -- Right, candidates at (5, 0) and (4, 1): the second wins
+    ∷ finds right (record { id = 1; rect = pointAt (plus 5 1) (plus 0 1) } ∷ record { id = 2; rect = pointAt (plus 4 1) (plus 1 1) } ∷ []) 2
     ∷ []

@@ -103,7 +103,7 @@ few x h z p =
     one-count : (x : Float) (a b : ℤ) → countOf 64 x ≡ at a → countOf 64 x ≡ at b → a ≡ b
     one-count x a b p q = cc
 
--- ---- r is what `abs` gave
+-- ---- r is what `magnitude` gave
 module _ (x : Float) (z : ℤ) (p : countOf 64 x ≡ at z) (h : natAbs z ≤ 32768 * 64) (r : Float) (e : r ≡ absF x) where
   product : Size (mul binary32 r (power 6)) (natAbs z) 1
   product =

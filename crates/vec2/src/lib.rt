@@ -13,18 +13,12 @@ ghost use Rattle.vec2.specs.Nearest.{Nearest};
 use emath::Vec2;
 use refusal::NONE;
 
-fn abs(x: f32) -> f32
-    ensures { λ r. ⌜ r ≡ cond (lt x (ofBits binary32 0)) (neg x) x ⌝ }
-{
-    if x < 0.0 { -x } else { x }
-}
-
 // x in 64ths, without its sign.
 fn steps(x: f32) -> u64
     requires { ⌜ pivotRefusal x ≡ none ⌝ }
     ensures { λ r. ⌜ ((z : ℤ) → countOf 64 x ≡ at z → r ≡ natAbs z) ⌝ }
 {
-    std::num::truncating_f32_to_u64(abs(x) * 64.0)
+    std::num::truncating_f32_to_u64(grid::magnitude(x) * 64.0)
 }
 
 // The whole number nearest to the square root of n. It is never halfway between two.

@@ -11,8 +11,8 @@ use Rattle.grid.proofs.corner.Tie as tie
 held : (c : tie.Start) → T (fits binary32 (c .args .x))
 held c = subst T (sym (c .good .0 .1)) tt
 
-abs-requires : tie.Need-abs-requires
-abs-requires c κs = search needs
+magnitude-requires : tie.Need-magnitude-requires
+magnitude-requires c κs = search needs
 
 is-whole-requires : tie.Need-is-whole-requires
 is-whole-requires c κs = search needs
@@ -21,17 +21,17 @@ returns : tie.Need-returns
 unfolding ofBits
 returns c =
     let size = c .before .before .before in
-    near 5 14 (lit≤ tt) corner-zeros _ (held (size .before)) _ (size .abs .ensures) true _ (c .before .before .if1 .taken) (c .before .is-whole .ensures) (c .if2 .taken)
+    near 5 14 (lit≤ tt) corner-zeros _ (held (size .before)) _ (size .magnitude .ensures) true _ (c .before .before .if1 .taken) (c .before .is-whole .ensures) (c .if2 .taken)
 
 returns-2 : tie.Need-returns-2
 unfolding ofBits
 returns-2 c =
     let size = c .before .before .before in
-    near 5 14 (lit≤ tt) corner-zeros _ (held (size .before)) _ (size .abs .ensures) false _ (c .before .before .if1 .taken) (c .before .is-whole .ensures) (c .if2 .left)
+    near 5 14 (lit≤ tt) corner-zeros _ (held (size .before)) _ (size .magnitude .ensures) false _ (c .before .before .if1 .taken) (c .before .is-whole .ensures) (c .if2 .left)
 
 returns-3 : tie.Need-returns-3
 unfolding ofBits
-returns-3 c = far 5 14 (lit≤ tt) corner-zeros _ (held (c .before .before)) _ (c .before .abs .ensures) (c .if1 .left)
+returns-3 c = far 5 14 (lit≤ tt) corner-zeros _ (held (c .before .before)) _ (c .before .magnitude .ensures) (c .if1 .left)
 
 pub corner-spec : {M : Type 1} → statement M
-corner-spec = tie.close (tie.spec abs-requires is-whole-requires returns returns-2 returns-3)
+corner-spec = tie.close (tie.spec magnitude-requires is-whole-requires returns returns-2 returns-3)

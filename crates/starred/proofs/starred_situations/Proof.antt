@@ -1,18 +1,23 @@
 -- The table of starred situations, computed. Assumes nothing.
 use mathlib.Core.Path.{refl}
-use lib.Ieee.{toBits, ofBits, round, add, sub, mul, div}
+use lib.Ieee.{toBits, ofBits, round, size, add, sub, mul, div, neg, lt, le, eq, isNan}
 use Rattle.refusal.specs.Refusal.{lowest}
 use Rattle.floats.specs.Count.{countOf}
 use Rattle.gui_rounding.specs.GuiRounding.{roundAway, roundUi}
+use Rattle.emath.specs.Range.{maxF, minF, spanOf, centerOf, intersectionOf}
 use Rattle.grid.specs.Grid.{within, sideRefusal}
 use Rattle.area.specs.Area.{toFactor, leftTop, stateRefusal}
 use Rattle.input.specs.EventFilter.{matchesKey}
+use Rattle.vec2.specs.Length.{rootOf, wholeNearest, nearestOf, lengthOf}
+use Rattle.vec2.specs.Vec2.{normalizedOf, dotOf}
+use Rattle.candidate.specs.Candidate.{hasSignificantOverlap, rangeDiff, searchDirection, acosAngle, isInSearchCone, scoreOf, judgeOf}
+use Rattle.search.specs.Search.{judgedOf, inConeOf, goesFirst, isBetter, isBeaten, firstUnbeaten, findOf}
 use Rattle.starred.specs.Starred.{holds, allHold}
 use Rattle.starred.proofs.starred_situations.Statement.{statement}
 use Rattle.starred.proofs.starred_situations.Tie as tie
 
 returns : tie.Need-returns
-unfolding holds allHold lowest countOf roundAway roundUi within sideRefusal toFactor leftTop stateRefusal matchesKey toBits ofBits round add sub mul div
+unfolding holds allHold lowest countOf roundAway roundUi within sideRefusal toFactor leftTop stateRefusal matchesKey maxF minF spanOf centerOf intersectionOf rootOf wholeNearest nearestOf lengthOf normalizedOf dotOf hasSignificantOverlap rangeDiff searchDirection acosAngle isInSearchCone scoreOf judgeOf judgedOf inConeOf goesFirst isBetter isBeaten firstUnbeaten findOf toBits ofBits round size add sub mul div neg lt le eq isNan
 returns c = refl
 
 pub starred-situations-spec : {M : Type 1} → statement M
