@@ -47,6 +47,14 @@ impl Lent {
         }
     }
 
+    /// The same with free places, which have rectangles all the same: every field's place once more, with id 0.
+    fn with_free_places(mut self) -> Self {
+        self.ids = self.ids.iter().flat_map(|&id| [0, id]).collect();
+        let places = self.rects.chunks(4).flat_map(|place| [place, place]);
+        self.rects = places.flatten().copied().collect();
+        self
+    }
+
     fn find(&self, direction: u64) -> u64 {
         let (ids, rects) = (&self.ids, &self.rects);
         let [left, top, right, bottom] = self.current;
@@ -119,7 +127,7 @@ fn main() -> std::io::Result<()> {
         ["searches", count, seed] => {
             let mut rng = Rng::of(number(seed), 0);
             for _ in 0..number(count) {
-                let lent = Lent::new(&tables::table(&mut rng));
+                let lent = Lent::new(&tables::table(&mut rng)).with_free_places();
                 let found: Vec<String> = (0..7).map(|d| lent.find(d).to_string()).collect();
                 writeln!(out, "{}", found.join(" "))?;
             }

@@ -21,8 +21,10 @@ type Span = (i64, i64);
 const LAST: i64 = 524_288;
 
 /// Differences (n, n), in 64ths, whose cosine is rounded to the f32 below the bound: egui has them outside the cone.
-const OUTSIDE: [i64; 8] = [
-    185_923, 371_277, 371_846, 742_503, 742_554, 743_692, 743_743, 744_881,
+const OUTSIDE: [i64; 20] = [
+    185_923, 371_277, 371_846, 742_503, 742_554, 743_692, 743_743, 744_881, 1_483_817, 1_483_919,
+    1_484_021, 1_485_006, 1_485_108, 1_486_195, 1_486_297, 1_487_384, 1_487_486, 1_488_573,
+    1_489_762, 1_490_951,
 ];
 
 fn points(steps: i64) -> f32 {
@@ -97,28 +99,56 @@ fn spot(id: u64, x: i64, y: i64) -> Field {
     field(id, span(x), span(y))
 }
 
-/// The difference (along, across), turned to one of the eight octants.
-fn turned(rng: &mut Rng, along: i64, across: i64) -> (i64, i64) {
-    let (along, across) = (along * rng.pick(&[1, -1]), across * rng.pick(&[1, -1]));
+/// Where the focused field lies, in 64ths: in the middle, or at a corner of the grid, from which all others lie one way.
+struct Seat {
+    at: (i64, i64),
+    way: Option<(i64, i64)>,
+    /// How far another may lie.
+    reach: i64,
+}
+
+fn seat(rng: &mut Rng) -> Seat {
+    let reach = rng.pick(&[80, 1_400, 40_000, 2 * LAST]);
+    let way = (rng.pick(&[1, -1]), rng.pick(&[1, -1]));
     if rng.percent(50) {
+        return Seat {
+            at: (0, 0),
+            way: None,
+            reach: reach - 1,
+        };
+    }
+    Seat {
+        at: (-way.0 * 2 * LAST, -way.1 * 2 * LAST),
+        way: Some(way),
+        reach: 2 * reach - 1,
+    }
+}
+
+/// A field so far along one axis and across it from the seat, on either axis and any way that the seat leaves open.
+fn seen(rng: &mut Rng, seat: &Seat, id: u64, along: i64, across: i64) -> Field {
+    let (x, y) = if rng.percent(50) {
         (along, across)
     } else {
         (across, along)
-    }
+    };
+    let free = (rng.pick(&[1, -1]), rng.pick(&[1, -1]));
+    let way = seat.way.unwrap_or(free);
+    spot(id, seat.at.0 + way.0 * x, seat.at.1 + way.1 * y)
 }
 
 /// Differences at the edge of the cone: the diagonals, a step beside them, and those diagonals that rounding puts outside.
 fn edge(rng: &mut Rng) -> Vec<Field> {
-    let reach = rng.pick(&[80, 1_400, 40_000, LAST]);
-    let mut fields = vec![spot(1, 0, 0)];
+    let seat = seat(rng);
+    let mut fields = vec![spot(1, seat.at.0, seat.at.1)];
     for id in 2..=4 {
-        let along = match rng.below(4) {
-            0 => rng.pick(&OUTSIDE),
-            _ => rng.between(2, reach),
+        let outside = rng.pick(&OUTSIDE);
+        let along = if rng.percent(25) && outside <= seat.reach {
+            outside
+        } else {
+            rng.between(2, seat.reach)
         };
         let beside = rng.pick(&[0, 0, 1, -1]);
-        let (x, y) = turned(rng, along, along + beside);
-        fields.push(spot(id, x, y));
+        fields.push(seen(rng, &seat, id, along, along + beside));
     }
     fields
 }
@@ -129,12 +159,12 @@ fn squared(along: i64, across: i64) -> f64 {
     (x * x + y * y).powi(3) / x.powi(4)
 }
 
-/// Fields in one cone whose scores hardly differ: the part across is found by halving.
+/// Fields whose scores hardly differ: the part across is found by halving.
 fn rivals(rng: &mut Rng) -> Vec<Field> {
-    let reach = rng.pick(&[800, 20_000, LAST]);
-    let along = rng.between(reach / 2, reach);
+    let seat = seat(rng);
+    let along = rng.between(seat.reach / 2, seat.reach);
     let score = squared(along, rng.between(0, along / 2));
-    let mut fields = vec![spot(1, 0, 0)];
+    let mut fields = vec![spot(1, seat.at.0, seat.at.1)];
     for id in 2..=7 {
         let along = rng.between(along * 3 / 4, along);
         let (mut low, mut high) = (0, along);
@@ -146,21 +176,41 @@ fn rivals(rng: &mut Rng) -> Vec<Field> {
                 high = middle;
             }
         }
-        let across = rng.pick(&[low, high]) * rng.pick(&[1, -1]);
-        fields.push(spot(id, along, across));
+        let across = rng.pick(&[low, high]);
+        fields.push(seen(rng, &seat, id, along, across));
     }
     fields
 }
 
+/// A page of 256 fields.
+fn full(rng: &mut Rng) -> Vec<Field> {
+    let (wide, high) = (rng.between(1, 2_000), rng.between(1, 2_000));
+    let slant = rng.between(0, 90);
+    let fields = (0..256).map(|i| {
+        let (column, row) = (i % 16, i / 16);
+        let (x, y) = (column * 2_048 + row * slant, row * 2_048 + column * slant);
+        field(i as u64 + 1, (x, x + wide), (y, y + high))
+    });
+    fields.collect()
+}
+
 /// The next table: ids and places in no order, one field focused.
 pub fn table(rng: &mut Rng) -> Table {
-    let mut fields = match rng.below(6) {
+    if rng.below(200) == 0 {
+        let fields = full(rng);
+        return shuffled(rng, fields);
+    }
+    let fields = match rng.below(6) {
         0 => anywhere(rng),
         1 => neighbours(rng),
         2 => page(rng),
         3 => edge(rng),
         _ => rivals(rng),
     };
+    shuffled(rng, fields)
+}
+
+fn shuffled(rng: &mut Rng, mut fields: Vec<Field>) -> Table {
     rng.shuffle(&mut fields);
     let focused = rng.below(fields.len());
     Table { fields, focused }

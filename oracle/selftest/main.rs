@@ -1,6 +1,7 @@
 //! Breaks the oracle and the port in many places, and sees whether each break is found.
 //!
 //!     selftest oracle BREAKS OUT LISTS    each break of breaks.txt, told from the oracle by the comparer on that many lists
+//!     selftest search BREAKS OUT TABLES   each break of BREAKS, told from the oracle by the search in that many tables
 //!     selftest port OUT SAMPLE UNREACHED  each must-fail edit of running code, told from the oracle by its answers to SAMPLE
 //!
 //! It prints a table and fails if a break is not found. OUT is the folder that tools/oracle has filled.
@@ -33,13 +34,30 @@ fn main() {
             println!("| break | found in list | shrunk to | the last line asks |");
             println!("|---|---|---|---|");
             let text = read(Path::new(breaks));
-            oracle::rows(&oracle::breaks(&text), Path::new(out), lists)
+            oracle::rows(
+                &oracle::breaks(&text),
+                Path::new(out),
+                lists,
+                oracle::compare,
+            )
+        }
+        ["search", breaks, out, tables] => {
+            println!("| break | found in tables |\n|---|---|");
+            let text = read(Path::new(breaks));
+            oracle::rows(
+                &oracle::breaks(&text),
+                Path::new(out),
+                tables,
+                oracle::search,
+            )
         }
         ["port", out, sample, unreached] => {
             println!("| crate | edit | found in |\n|---|---|---|");
             port::rows(Path::new(out), Path::new(sample), Path::new(unreached))
         }
-        _ => stop("usage: selftest oracle BREAKS OUT LISTS, or selftest port OUT SAMPLE UNREACHED"),
+        _ => stop(
+            "usage: selftest oracle BREAKS OUT LISTS | search BREAKS OUT TABLES | port OUT SAMPLE UNREACHED",
+        ),
     };
     rows.iter().for_each(|row| println!("{}", row.text));
     let count = |end: End| rows.iter().filter(|row| row.end == end).count();

@@ -43,8 +43,11 @@ fn parse(line: &str) -> Break<'_> {
     }
 }
 
+/// What tells a broken oracle from the oracle: whether it did, and the cells that say how.
+pub type Test = fn(out: &Path, program: &str, count: &str) -> (bool, String);
+
 /// Two at a time: a break costs a compilation and a run.
-pub fn rows(breaks: &[Break], out: &Path, lists: &str) -> Vec<Row> {
+pub fn rows(breaks: &[Break], out: &Path, count: &str, test: Test) -> Vec<Row> {
     let half = breaks.len().div_ceil(2);
     thread::scope(|scope| {
         let tasks: Vec<_> = breaks
@@ -52,7 +55,7 @@ pub fn rows(breaks: &[Break], out: &Path, lists: &str) -> Vec<Row> {
             .enumerate()
             .map(|(i, part)| {
                 scope.spawn(move || -> Vec<Row> {
-                    part.iter().map(|b| row(b, out, lists, i)).collect()
+                    part.iter().map(|b| row(b, out, count, test, i)).collect()
                 })
             })
             .collect();
@@ -61,9 +64,9 @@ pub fn rows(breaks: &[Break], out: &Path, lists: &str) -> Vec<Row> {
     })
 }
 
-fn row(b: &Break, out: &Path, lists: &str, worker: usize) -> Row {
+fn row(b: &Break, out: &Path, count: &str, test: Test, worker: usize) -> Row {
     let (found, cells) = match compile(b, out, worker) {
-        Ok(program) => compare(out, &program, lists),
+        Ok(program) => test(out, &program, count),
         Err(why) => (false, why),
     };
     Row {
@@ -94,6 +97,7 @@ fn compile(b: &Break, out: &Path, worker: usize) -> Result<String, String> {
         out.join("egui"),
         "oracle/src".into(),
         "oracle/compare".into(),
+        "oracle/search".into(),
     ] {
         run(Command::new("cp").arg("-r").arg(from).arg(&copy))?;
     }
@@ -121,8 +125,22 @@ fn compile(b: &Break, out: &Path, worker: usize) -> Result<String, String> {
     Ok(program.display().to_string())
 }
 
+/// In how many tables the directional search answers otherwise.
+pub fn search(out: &Path, program: &str, tables: &str) -> (bool, String) {
+    let answers = |program: &Path| {
+        let done = Command::new(program)
+            .args(["searches", tables, "1"])
+            .output();
+        done.unwrap_or_else(|e| stop(&e.to_string())).stdout
+    };
+    let (own, other) = (answers(&out.join("oracle")), answers(Path::new(program)));
+    let (own, other) = (own.split(|b| *b == b'\n'), other.split(|b| *b == b'\n'));
+    let differ = own.zip(other).filter(|(a, b)| a != b).count();
+    (differ > 0, differ.to_string())
+}
+
 /// Whether the comparer tells the oracle from the broken one, and the cells that say how.
-fn compare(out: &Path, program: &str, lists: &str) -> (bool, String) {
+pub fn compare(out: &Path, program: &str, lists: &str) -> (bool, String) {
     let mut command = Command::new(out.join("compare"));
     let oracle = out.join("oracle").display().to_string();
     command.args(["lists", lists, "1", "600", &oracle, program, "/dev/null"]);
