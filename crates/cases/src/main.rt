@@ -1,5 +1,7 @@
 // Runs the leaves at their limits and prints what each call answers, a line each; the file stdout has what must come out.
 // A refusal is printed as 'no' and its number.
+mod searches;
+
 use area::Align2;
 use area::AreaState;
 use area::PivotPos;
@@ -269,4 +271,5 @@ fn main() {
     wide_areas();
     moves();
     keys();
+    searches::searches();
 }

@@ -1,9 +1,7 @@
 // emath's vec2.rs, as far as the search needs it. Any f32 goes in.
 ghost use mathlib.Core.Path.{_≡_};
-ghost use mathlib.Core.Bool.{cond};
 ghost use Prim.Native.Nat.{_+_, _*_, _^_, _≤_, _<_};
 ghost use lib.IntN.{ℤ, natAbs};
-ghost use lib.Ieee.{binary32, ofBits, neg, lt};
 ghost use Rattle.refusal.specs.Refusal.{none};
 ghost use Rattle.floats.specs.Count.{at, countOf};
 ghost use Rattle.grid.specs.Grid.{pivotRefusal};
