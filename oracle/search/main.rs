@@ -47,11 +47,13 @@ impl Lent {
         }
     }
 
-    /// The same with free places, which have rectangles all the same: every field's place once more, with id 0.
-    fn with_free_places(mut self) -> Self {
+    /// The same with what is no candidate: every field's place once more with id 0, which is free, and at the end an id without
+    /// its four edges.
+    fn with_others(mut self) -> Self {
         self.ids = self.ids.iter().flat_map(|&id| [0, id]).collect();
+        self.ids.push(1);
         let places = self.rects.chunks(4).flat_map(|place| [place, place]);
-        self.rects = places.flatten().copied().collect();
+        self.rects = places.flatten().copied().chain([0.0; 3]).collect();
         self
     }
 
@@ -127,7 +129,7 @@ fn main() -> std::io::Result<()> {
         ["searches", count, seed] => {
             let mut rng = Rng::of(number(seed), 0);
             for _ in 0..number(count) {
-                let lent = Lent::new(&tables::table(&mut rng)).with_free_places();
+                let lent = Lent::new(&tables::table(&mut rng)).with_others();
                 let found: Vec<String> = (0..7).map(|d| lent.find(d).to_string()).collect();
                 writeln!(out, "{}", found.join(" "))?;
             }

@@ -194,26 +194,51 @@ fn full(rng: &mut Rng) -> Vec<Field> {
     fields.collect()
 }
 
-/// The next table: ids and places in no order, one field focused.
+/// The next table: ids in no order, some past half of all numbers, places in no order, one field focused.
 pub fn table(rng: &mut Rng) -> Table {
-    if rng.below(200) == 0 {
-        let fields = full(rng);
-        return shuffled(rng, fields);
-    }
-    let fields = match rng.below(6) {
-        0 => anywhere(rng),
-        1 => neighbours(rng),
-        2 => page(rng),
-        3 => edge(rng),
-        _ => rivals(rng),
+    let (mut fields, seat) = match rng.below(200) {
+        0 => (full(rng), false),
+        1..35 => (anywhere(rng), false),
+        35..70 => (neighbours(rng), false),
+        70..105 => (page(rng), false),
+        105..135 => (edge(rng), true),
+        _ => (rivals(rng), true),
     };
-    shuffled(rng, fields)
+    // The first field is the seat, where there is one; most often it is focused.
+    let first = if seat && rng.percent(80) {
+        0
+    } else {
+        rng.below(fields.len())
+    };
+    let focused = fields.remove(first);
+    rng.shuffle(&mut fields);
+    let focused_at = rng.below(fields.len() + 1);
+    fields.insert(focused_at, focused);
+    renumber(rng, &mut fields);
+    Table {
+        fields,
+        focused: focused_at,
+    }
 }
 
-fn shuffled(rng: &mut Rng, mut fields: Vec<Field>) -> Table {
-    rng.shuffle(&mut fields);
-    let focused = rng.below(fields.len());
-    Table { fields, focused }
+/// Other ids, and some zeros with a sign.
+fn renumber(rng: &mut Rng, fields: &mut [Field]) {
+    let last = fields.len() as u64;
+    let mut ids: Vec<u64> = (1..=last).collect();
+    rng.shuffle(&mut ids);
+    let high = rng.percent(10);
+    for (field, id) in fields.iter_mut().zip(ids) {
+        field.id = if high && id % 2 == 0 {
+            u64::MAX - id
+        } else {
+            id
+        };
+        if rng.percent(5) {
+            field.edges = field
+                .edges
+                .map(|edge| if edge == 0.0 { -0.0 } else { edge });
+        }
+    }
 }
 
 /// Layouts to be timed: rows and columns, a staggered page, fields anywhere. The focused field lies in the middle.

@@ -1,4 +1,5 @@
-// What a C or Rust program on the board links against: numbers and slices in, a number out. Each function is the one it calls.
+// What a C or Rust program on the board links against: numbers and slices in, a number out. A slice is two arguments in C, where it
+// starts and how many elements it has. Each function gives what the one that it calls gives.
 ghost use mathlib.Core.Path.{_≡_};
 ghost use Rattle.search.specs.Search.{tableOf, findOf};
 use emath::Pos2;

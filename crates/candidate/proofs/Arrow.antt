@@ -11,7 +11,7 @@ use Rattle.emath.specs.declared.Vec2.{Vec2}
 use Rattle.input.specs.FocusDirection.{up, right, down, left}
 use Rattle.vec2.specs.Vec2.{dotOf}
 use Rattle.candidate.specs.Candidate as spec
-use Rattle.candidate.specs.Candidate.{pick, searchDirection, alongOf}
+use Rattle.candidate.specs.Candidate.{searchDirection, alongOf}
 
 abbrev pub nil : Float
 nil = fin false 0 (pos 0)
@@ -40,39 +40,40 @@ pub record Still (k : ℕ) : Type 0 where
   pub nowhere : searchDirection k ≡ record { x = nil; y = nil }
   pub level : (v : Vec2) → alongOf v k ≡ nil
 
-zero-is : spec.zero ≡ nil
-unfolding ofBits
-zero-is = refl
+-- the four tests of the definitions in turn
+module _ (k : ℕ) where
+  upward : eqb k up ≡ true → Arrow k
+  unfolding searchDirection alongOf ofBits neg
+  upward u = record { axis = true; low = true; towards = rw u; ahead = λ v. rw u }
 
-one-is : spec.one ≡ fin false 1 (pos 0)
-unfolding ofBits
-one-is = refl
+  module _ (u : eqb k up ≡ false) where
+    rightward : eqb k right ≡ true → Arrow k
+    unfolding searchDirection alongOf ofBits
+    rightward r = record { axis = false; low = false; towards = rw (u, r); ahead = λ v. rw (u, r) }
 
-back-is : neg spec.one ≡ fin true 1 (pos 0)
-unfolding ofBits neg
-back-is = refl
+    module _ (r : eqb k right ≡ false) where
+      downward : eqb k down ≡ true → Arrow k
+      unfolding searchDirection alongOf ofBits
+      downward d = record { axis = true; low = false; towards = rw (u, r, d); ahead = λ v. rw (u, r, d) }
 
--- what the definitions choose, by the four tests
-abbrev Direction : Bool → Bool → Bool → Bool → Vec2
-Direction u r d l =
-    pick u (record { x = spec.zero; y = neg spec.one })
-    (pick r (record { x = spec.one; y = spec.zero })
-    (pick d (record { x = spec.zero; y = spec.one })
-    (pick l (record { x = neg spec.one; y = spec.zero }) (record { x = spec.zero; y = spec.zero }))))
+      module _ (d : eqb k down ≡ false) where
+        leftward : eqb k left ≡ true → Arrow k
+        unfolding searchDirection alongOf ofBits neg
+        leftward l = record { axis = false; low = true; towards = rw (u, r, d, l); ahead = λ v. rw (u, r, d, l) }
 
-abbrev Along : Bool → Bool → Bool → Bool → Vec2 → Float
-Along u r d l v = cond u (neg (v .y)) (cond r (v .x) (cond d (v .y) (cond l (neg (v .x)) spec.zero)))
+        nowhere-else : eqb k left ≡ false → Still k
+        unfolding searchDirection alongOf ofBits
+        nowhere-else l = record { nowhere = rw (u, r, d, l); level = λ v. rw (u, r, d, l) }
 
 pub arrow : (k : ℕ) → Arrow k ⊎ Still k
-unfolding searchDirection alongOf
-arrow k = go (eqb k up) (eqb k right) (eqb k down) (eqb k left) refl (λ v. refl)
+arrow k = go (eqb k up) (eqb k right) (eqb k down) (eqb k left) refl refl refl refl
   where
-    go : (u r d l : Bool) → searchDirection k ≡ Direction u r d l → ((v : Vec2) → alongOf v k ≡ Along u r d l v) → Arrow k ⊎ Still k
-    go true r d l D A = inl (record { axis = true; low = true; towards = D ∙ (λ i. record { x = zero-is i; y = back-is i }); ahead = A })
-    go false true d l D A = inl (record { axis = false; low = false; towards = D ∙ (λ i. record { x = one-is i; y = zero-is i }); ahead = A })
-    go false false true l D A = inl (record { axis = true; low = false; towards = D ∙ (λ i. record { x = zero-is i; y = one-is i }); ahead = A })
-    go false false false true D A = inl (record { axis = false; low = true; towards = D ∙ (λ i. record { x = back-is i; y = zero-is i }); ahead = A })
-    go false false false false D A = inr (record { nowhere = D ∙ (λ i. record { x = zero-is i; y = zero-is i }); level = λ v. A v ∙ zero-is })
+    go : (u r d l : Bool) → eqb k up ≡ u → eqb k right ≡ r → eqb k down ≡ d → eqb k left ≡ l → Arrow k ⊎ Still k
+    go true r d l U R D L = inl (upward k U)
+    go false true d l U R D L = inl (rightward k U R)
+    go false false true l U R D L = inl (downward k U R D)
+    go false false false true U R D L = inl (leftward k U R D L)
+    go false false false false U R D L = inr (nowhere-else k U R D L)
 
 -- ---- the product with a direction, of a vector of two finite numbers
 turned : (low s : Bool) (m : ℕ) (e : ℤ) → fin (unlike s low) m e ≡ turn low (fin s m e)

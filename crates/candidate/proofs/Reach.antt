@@ -24,7 +24,7 @@ use Rattle.vec2.specs.Length.{digitsUp, nearestOf, lengthOf}
 use Rattle.vec2.proofs.Laws.{OnGrid, on-grid, off-grid, grid-or-not, rooted, nearest-is, length-value}
 use Rattle.candidate.specs.declared.Judged.the-variants.{Outside, Score}
 use Rattle.candidate.specs.Candidate as spec
-use Rattle.candidate.specs.Candidate.{alongOf, acosAngle, coneBound, isInSearchCone, scoreOf, judged, judgeOf, isFarther}
+use Rattle.candidate.specs.Candidate.{alongOf, acosAngle, coneBound, isInSearchCone, scoreOf, verdict, judgeOf, isFarther}
 use Rattle.candidate.proofs.Bound.{bound, bound-is}
 use Rattle.candidate.proofs.Quotient.{squares-below, up-to, quotient}
 use Rattle.candidate.proofs.Cosine.{over-nan, no-cosine, above-zero, Part, part-of, Ahead, ahead, behind}
@@ -217,7 +217,7 @@ module _ (v : Vec2) (k : ℕ) (i : Inside v k) where
   near = λ j. not-far (v .x) (part-x v (i .grid)) j || not-far (v .y) (part-y v (i .grid)) j
 
 -- ---- the laws that the code and the search lean on
-scored : (t : Bool) (x s : Float) → judged t x ≡ Score s → (t ≡ true) × (x ≡ s)
+scored : (t : Bool) (x s : Float) → verdict t x ≡ Score s → (t ≡ true) × (x ≡ s)
 scored true x s e = (refl, same e)
   where
     same : Score x ≡ Score s → x ≡ s
@@ -253,7 +253,7 @@ not-inside v k h = go (isInSearchCone v k) (inside v k)
 
 outside : (v : Vec2) (k : ℕ) → isInSearchCone v k ≡ false → Outside ≡ judgeOf v k
 unfolding judgeOf
-outside v k h = ap (λ (t : Bool). judged t (scoreOf v k)) (sym h)
+outside v k h = ap (λ (t : Bool). verdict t (scoreOf v k)) (sym h)
 
 -- ---- `judge`, return by return: a is the part ahead, l the length
 module _ (v : Vec2) (k : ℕ) (a : Float) (A : a ≡ alongOf v k) where
@@ -274,7 +274,7 @@ module _ (v : Vec2) (k : ℕ) (a : Float) (A : a ≡ alongOf v k) where
     unfolding judgeOf isInSearchCone scoreOf
     in-cone t =
         (λ i. Score (div binary32 (L i) (mul binary32 (sym cosine-is i) (sym cosine-is i))))
-        ∙ ap (λ (b : Bool). judged b (scoreOf v k)) (sym (ap (le coneBound) cosine-is ∙ t))
+        ∙ ap (λ (b : Bool). verdict b (scoreOf v k)) (sym (ap (le coneBound) cosine-is ∙ t))
 
     pub out-of-cone : le coneBound (div binary32 a l) ≡ false → Outside ≡ judgeOf v k
     out-of-cone t = outside v k (test t)

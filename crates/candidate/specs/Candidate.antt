@@ -12,7 +12,7 @@ use Rattle.emath.specs.Rect.{xRange, yRange}
 use Rattle.grid.specs.Grid.{magnitudeOf}
 use Rattle.input.specs.FocusDirection.{up, right, down, left}
 use Rattle.vec2.specs.Length.{lengthOf}
-use Rattle.vec2.specs.Vec2.{normalizedOf, dotOf}
+use Rattle.vec2.specs.Vec2.{pickVec, normalizedOf, dotOf}
 use Rattle.candidate.specs.declared.Judged.{Judged}
 use Rattle.candidate.specs.declared.Judged.the-variants.{Outside, Score}
 
@@ -33,16 +33,12 @@ abbrev pub toCandidate : Rect → Rect → Vec2
 toCandidate candidate current = record { x = rangeDiff (xRange candidate) (xRange current); y = rangeDiff (yRange candidate) (yRange current) }
 
 -- Vec2::UP, RIGHT, DOWN, LEFT; a direction that is no arrow's has none, and (0, 0) stands for it
-abbrev pub pick : Bool → Vec2 → Vec2 → Vec2
-pick true a b = a
-pick false a b = b
-
 unfoldable pub searchDirection : ℕ → Vec2
 searchDirection k =
-    pick (eqb k up) (record { x = zero; y = neg one })
-    (pick (eqb k right) (record { x = one; y = zero })
-    (pick (eqb k down) (record { x = zero; y = one })
-    (pick (eqb k left) (record { x = neg one; y = zero }) (record { x = zero; y = zero }))))
+    pickVec (eqb k up) (record { x = zero; y = neg one })
+    (pickVec (eqb k right) (record { x = one; y = zero })
+    (pickVec (eqb k down) (record { x = zero; y = one })
+    (pickVec (eqb k left) (record { x = neg one; y = zero }) (record { x = zero; y = zero }))))
 
 -- the cosine of the angle between the difference and the direction
 unfoldable pub acosAngle : Vec2 → ℕ → Float
@@ -58,13 +54,13 @@ isInSearchCone v k = le coneBound (acosAngle v k)
 unfoldable pub scoreOf : Vec2 → ℕ → Float
 scoreOf v k = div binary32 (lengthOf v) (mul binary32 (acosAngle v k) (acosAngle v k))
 
-abbrev pub judged : Bool → Float → Judged
-judged true score = Score score
-judged false score = Outside
+abbrev pub verdict : Bool → Float → Judged
+verdict true score = Score score
+verdict false score = Outside
 
 -- outside the cone, or the score
 unfoldable pub judgeOf : Vec2 → ℕ → Judged
-judgeOf v k = judged (isInSearchCone v k) (scoreOf v k)
+judgeOf v k = verdict (isInSearchCone v k) (scoreOf v k)
 
 -- ---- what the code looks at before it takes a root: the part of a difference along the direction, and whether a part's size is past a limit
 unfoldable pub alongOf : Vec2 → ℕ → Float

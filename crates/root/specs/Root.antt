@@ -1,4 +1,4 @@
--- The whole part of a square root. Definitions only.
+-- The whole part of a square root, as document 01 has it ("hypot and sqrt"). Definitions only.
 use Prim.Native.Nat.{ℕ, _+_, _*_, _≤_, _<_}
 
 -- r is the largest whole number whose square is at most n

@@ -3,6 +3,6 @@ pub mod Better
 pub mod Least
 pub mod Steps
 pub mod EguiLeast
-pub mod Rising
+pub mod InOrder
 pub mod Turns
 pub mod Places

@@ -14,7 +14,7 @@ use Rattle.candidate.specs.Candidate.{toCandidate, judgeOf}
 use Rattle.candidate.proofs.Reach.{scored-plain, scored-finite}
 use Rattle.search.specs.declared.Candidate.{Candidate}
 use Rattle.search.specs.declared.Scored.{Scored}
-use Rattle.search.specs.Search.{isCandidate, judgedOf, joined, inConeOf, isBetter, firstUnbeaten, findOf}
+use Rattle.search.specs.Search.{isCandidate, consideredOf, joined, inConeOf, isBetter, firstUnbeaten, findOf}
 use Rattle.search.specs.Walk.{nothingYet, keptOf, takenOf, stepOf, walkOf}
 use Rattle.search.proofs.Better.{Good}
 use Rattle.search.proofs.Least.{AllGood, pick-good, leastOf, least-good, least-found}
@@ -35,8 +35,8 @@ start-none better (s ∷ rest) L e = absurd (least-good better s rest (L .0) (L 
 
 module _ (focused : ℕ) (current : Rect) (direction : ℕ) where
   -- ---- what is in the cone has a plain score below infinity and an id
-  pub good : (c : Candidate) (x : Float) → judgedOf focused current direction c ≡ Score x → Good (record { score = x; candidate = c })
-  unfolding judgedOf
+  pub good : (c : Candidate) (x : Float) → consideredOf focused current direction c ≡ Score x → Good (record { score = x; candidate = c })
+  unfolding consideredOf
   good c x e = go (isCandidate focused (c .id)) refl e
     where
       go : (t : Bool) → isCandidate focused (c .id) ≡ t → cond t (judgeOf (toCandidate (c .rect) current) direction) Outside ≡ Score x → Good (record { score = x; candidate = c })
@@ -50,9 +50,9 @@ module _ (focused : ℕ) (current : Rect) (direction : ℕ) where
   pub cone-good : (table : List Candidate) → AllGood (inConeOf focused current direction table)
   unfolding inConeOf
   cone-good [] = tt
-  cone-good (c ∷ rest) = go (judgedOf focused current direction c) refl (cone-good rest)
+  cone-good (c ∷ rest) = go (consideredOf focused current direction c) refl (cone-good rest)
     where
-      go : (j : Judged) → judgedOf focused current direction c ≡ j → AllGood (inConeOf focused current direction rest) → AllGood (joined j c (inConeOf focused current direction rest))
+      go : (j : Judged) → consideredOf focused current direction c ≡ j → AllGood (inConeOf focused current direction rest) → AllGood (joined j c (inConeOf focused current direction rest))
       go Outside e l = l
       go (Score x) e l = (good c x e, l)
 
@@ -61,9 +61,9 @@ module _ (focused : ℕ) (current : Rect) (direction : ℕ) where
     walk-least : (table : List Candidate) (b : Scored) → Good b → walkOf better focused current direction b table ≡ leastOf better b (inConeOf focused current direction table)
     unfolding walkOf stepOf inConeOf leastOf keptOf
     walk-least [] b B = refl
-    walk-least (c ∷ rest) b B = go (judgedOf focused current direction c) refl (walk-least rest)
+    walk-least (c ∷ rest) b B = go (consideredOf focused current direction c) refl (walk-least rest)
       where
-        go : (j : Judged) → judgedOf focused current direction c ≡ j
+        go : (j : Judged) → consideredOf focused current direction c ≡ j
             → ((k : Scored) → Good k → walkOf better focused current direction k rest ≡ leastOf better k (inConeOf focused current direction rest))
             → walkOf better focused current direction (takenOf better b c j) rest ≡ leastOf better b (joined j c (inConeOf focused current direction rest))
         go Outside e f = f b B
@@ -75,12 +75,12 @@ module _ (focused : ℕ) (current : Rect) (direction : ℕ) where
     pub walk-starts : (table : List Candidate) → Starts better (inConeOf focused current direction table) → walkOf better focused current direction nothingYet table ≡ startOf better (inConeOf focused current direction table)
     unfolding walkOf stepOf inConeOf keptOf
     walk-starts [] h = refl
-    walk-starts (c ∷ rest) h = go (judgedOf focused current direction c) refl (walk-starts rest) h
+    walk-starts (c ∷ rest) h = go (consideredOf focused current direction c) refl (walk-starts rest) h
       where
         cone : List Scored
         cone = inConeOf focused current direction rest
 
-        go : (j : Judged) → judgedOf focused current direction c ≡ j
+        go : (j : Judged) → consideredOf focused current direction c ≡ j
             → (Starts better cone → walkOf better focused current direction nothingYet rest ≡ startOf better cone)
             → Starts better (joined j c cone)
             → walkOf better focused current direction (takenOf better nothingYet c j) rest ≡ startOf better (joined j c cone)

@@ -14,7 +14,7 @@ use Rattle.candidate.specs.Candidate.{toCandidate, judgeOf, isFarther}
 use Rattle.candidate.proofs.Reach.{farther-loses}
 use Rattle.search.specs.declared.Candidate.{Candidate}
 use Rattle.search.specs.declared.Scored.{Scored}
-use Rattle.search.specs.Search.{judgedOf, goesFirst, isBetter}
+use Rattle.search.specs.Search.{consideredOf, goesFirst, isBetter}
 use Rattle.search.specs.Walk.{keptOf, takenOf, stepOf}
 
 module _ (a b : Scored) where
@@ -34,22 +34,22 @@ module _ (focused : ℕ) (current : Rect) (direction : ℕ) (best : Scored) (c :
   abbrev step : Scored
   step = stepOf isBetter focused current direction best c
 
-  stays : judgedOf focused current direction c ≡ Outside → best ≡ step
+  stays : consideredOf focused current direction c ≡ Outside → best ≡ step
   unfolding stepOf
   stays e = ap (takenOf isBetter best c) (sym e)
 
   -- ---- no candidate
   pub free-place : c .id ≡ 0 → best ≡ step
-  free-place h = stays (unfold judgedOf in ap (λ (t : Bool). cond (not (t || eqb (c .id) focused)) (judgeOf (toCandidate (c .rect) current) direction) Outside) (eq-eqb (c .id) 0 h))
+  free-place h = stays (unfold consideredOf in ap (λ (t : Bool). cond (not (t || eqb (c .id) focused)) (judgeOf (toCandidate (c .rect) current) direction) Outside) (eq-eqb (c .id) 0 h))
 
   pub itself : (c .id ≡ 0 → ⊥) → c .id ≡ focused → best ≡ step
-  unfolding judgedOf
+  unfolding consideredOf
   itself z h = stays (λ i. cond (not (ne-eqb (c .id) 0 z i || eq-eqb (c .id) focused h i)) (judgeOf (toCandidate (c .rect) current) direction) Outside)
 
   -- ---- a candidate, judged or passed over
   module _ (z : c .id ≡ 0 → ⊥) (other : c .id ≡ focused → ⊥) (v : Vec2) (d : v ≡ toCandidate (c .rect) current) where
-    judged : judgedOf focused current direction c ≡ judgeOf v direction
-    unfolding judgedOf
+    judged : consideredOf focused current direction c ≡ judgeOf v direction
+    unfolding consideredOf
     judged = λ i. cond (not (ne-eqb (c .id) 0 z i || ne-eqb (c .id) focused other i)) (judgeOf (sym d i) direction) Outside
 
     pub passed-over : isFarther v (best .score) ≡ true → best ≡ step

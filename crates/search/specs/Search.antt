@@ -24,8 +24,9 @@ tableOf (id ∷ ids) rects = cond (ltb (length rects) 4) [] (placeOf id rects �
 abbrev pub isCandidate : ℕ → ℕ → Bool
 isCandidate focused id = not (eqb id 0 || eqb id focused)
 
-unfoldable pub judgedOf : ℕ → Rect → ℕ → Candidate → Judged
-judgedOf focused current direction c = cond (isCandidate focused (c .id)) (judgeOf (toCandidate (c .rect) current) direction) Outside
+-- a free place and the focused id count as outside
+unfoldable pub consideredOf : ℕ → Rect → ℕ → Candidate → Judged
+consideredOf focused current direction c = cond (isCandidate focused (c .id)) (judgeOf (toCandidate (c .rect) current) direction) Outside
 
 abbrev pub joined : Judged → Candidate → List Scored → List Scored
 joined Outside c rest = rest
@@ -33,13 +34,13 @@ joined (Score x) c rest = record { score = x; candidate = c } ∷ rest
 
 unfoldable pub inConeOf : ℕ → Rect → ℕ → List Candidate → List Scored
 inConeOf focused current direction [] = []
-inConeOf focused current direction (c ∷ rest) = joined (judgedOf focused current direction c) c (inConeOf focused current direction rest)
+inConeOf focused current direction (c ∷ rest) = joined (consideredOf focused current direction c) c (inConeOf focused current direction rest)
 
 -- ---- the tie rule, for equal scores
 unfoldable pub goesFirst : Candidate → Candidate → Bool
 goesFirst a b = ltb (a .id) (b .id)
 
--- the smaller (score, tie key)
+-- the smaller score, and of equal scores the one that goes first
 unfoldable pub isBetter : Scored → Scored → Bool
 isBetter a b = lt (a .score) (b .score) || (eq (a .score) (b .score) && goesFirst (a .candidate) (b .candidate))
 
@@ -52,6 +53,6 @@ unfoldable pub firstUnbeaten : List Scored → List Scored → ℕ
 firstUnbeaten all [] = 0
 firstUnbeaten all (a ∷ rest) = cond (isBeaten isBetter all a) (firstUnbeaten all rest) (a .candidate .id)
 
--- the id of the candidate in the cone with the least (score, tie key), or 0 where none lies in the cone
+-- the id of the candidate in the cone that none is better than, or 0 where none lies in the cone
 unfoldable pub findOf : List Candidate → ℕ → Rect → ℕ → ℕ
 findOf table focused current direction = let scored = inConeOf focused current direction table in firstUnbeaten scored scored

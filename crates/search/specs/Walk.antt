@@ -1,4 +1,5 @@
--- The walk that the code makes, one pass that keeps the best so far; `find`'s contract says nothing about it. Definitions only.
+-- One pass over the table that keeps the best so far: the code's, and with another rule the Rust's (lines 748 to 782 of memory/mod.rs). `find`'s contract does not
+-- cite it. Definitions only.
 use Prim.Native.Nat.{ℕ}
 use mathlib.Core.Bool.{Bool, false, cond}
 use mathlib.Core.List.{List, [], _∷_}
@@ -9,7 +10,7 @@ use Rattle.candidate.specs.declared.Judged.{Judged}
 use Rattle.candidate.specs.declared.Judged.the-variants.{Outside, Score}
 use Rattle.search.specs.declared.Candidate.{Candidate}
 use Rattle.search.specs.declared.Scored.{Scored}
-use Rattle.search.specs.Search.{judgedOf}
+use Rattle.search.specs.Search.{consideredOf}
 
 -- no candidate yet: id 0, which no candidate has
 abbrev pub nothingYet : Scored
@@ -24,7 +25,7 @@ takenOf takes best c Outside = best
 takenOf takes best c (Score x) = keptOf takes best (record { score = x; candidate = c })
 
 unfoldable pub stepOf : (Scored → Scored → Bool) → ℕ → Rect → ℕ → Scored → Candidate → Scored
-stepOf takes focused current direction best c = takenOf takes best c (judgedOf focused current direction c)
+stepOf takes focused current direction best c = takenOf takes best c (consideredOf focused current direction c)
 
 unfoldable pub walkOf : (Scored → Scored → Bool) → ℕ → Rect → ℕ → Scored → List Candidate → Scored
 walkOf takes focused current direction best [] = best

@@ -6,7 +6,7 @@ ghost use mathlib.Core.List.{List, []};
 ghost use Rattle.emath.specs.declared.Rect.{Rect};
 ghost use Rattle.search.specs.declared.Candidate.{Candidate};
 ghost use Rattle.search.specs.Search.{tableOf, goesFirst, isBetter, inConeOf, findOf};
-ghost use Rattle.search.specs.EguiWalk.{eguiFinds, IsLeast, risesFrom};
+ghost use Rattle.search.specs.EguiWalk.{eguiFinds, IsLeast, inTieOrder};
 ghost use Rattle.search.specs.Walk.{nothingYet, stepOf};
 use candidate::Judged;
 use emath::Pos2;
@@ -96,7 +96,8 @@ fn fewer(a: usize, b: usize) -> usize
 }
 
 // The id of the candidate in the cone of the direction, as seen from the rectangle `current` of the id `focused`, with the least score,
-// ties by the tie rule; 0 where none lies in the cone. A place is an id, 0 where it is free, and four of rects: left, top, right, bottom.
+// ties by the tie rule; 0 where none lies in the cone. A place is an id, 0 where it is free, and four of rects: left, top, right, bottom;
+// what the longer slice has more is not looked at.
 pub fn find(ids: &[u64], rects: &[f32], focused: u64, current: Rect, direction: u64) -> u64
     ensures { λ r. ⌜ r ≡ findOf (tableOf (now (ids .entry)) (now (rects .entry))) focused current direction ⌝ }
 {
@@ -139,10 +140,10 @@ pub fn walk_finds_the_least()
         → IsLeast (inConeOf focused current direction table) (eguiFinds focused current direction table)) ⌝ }
 {}
 
-// Where the ids of the places that are not free rise from place to place, the Rust's own loop finds what `find` does. This speaks of
-// the tie rule in force, the smallest id: the loop keeps the first of equal scores. There is nothing to run.
-pub fn walk_by_rising_ids()
+// Where the cache hands its candidates out in the order of the tie rule, the Rust's own loop finds what `find` does: it keeps the first
+// of equal scores. There is nothing to run.
+pub fn walk_in_tie_order()
     ensures { λ _. ⌜ ((table : List Candidate) (focused : ℕ) (current : Rect) (direction : ℕ)
-        → risesFrom 0 table ≡ true
+        → inTieOrder table ≡ true
         → eguiFinds focused current direction table .candidate .id ≡ findOf table focused current direction) ⌝ }
 {}

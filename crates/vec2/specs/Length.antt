@@ -9,7 +9,7 @@ use Rattle.floats.specs.Count.{Count, off, at, countOf}
 use Rattle.grid.specs.Grid.{pivotPosRefusal}
 use Rattle.emath.specs.declared.Vec2.{Vec2}
 
--- the whole part of √n, for an n below 4 ^ d: a binary digit for each two of n
+-- the whole part of √n, for an n below 4 ^ d, a binary digit for each two of n; a root found in any other way would do
 unfoldable pub rootOf : ℕ → ℕ → ℕ
 rootOf zero n = 0
 rootOf (suc d) n = let r = 2 * rootOf d (n / 4) in cond (leb ((r + 1) * (r + 1)) n) (r + 1) r
@@ -22,7 +22,7 @@ wholeNearest n = let r = rootOf 32 n in cond (leb n (r * r + r)) r (r + 1)
 abbrev pub digitsUp : ℕ → ℕ
 digitsUp n = (48 - size n) / 2
 
--- the f32 nearest to √n / 64, for an n below 2 ^ 48 (`length_is_nearest` says so)
+-- the f32 nearest to √n / 64, for an n below 2 ^ 48; for the sums of squares of the grid `length_is_nearest` says so
 unfoldable pub nearestOf : ℕ → Float
 nearestOf n = let t = digitsUp n in round binary32 false (wholeNearest (n * 4 ^ t)) (64 * 2 ^ t)
 

@@ -1,4 +1,4 @@
--- What "the f32 nearest to a square root" means. Definitions only.
+-- What "the f32 nearest the true square root" of document 01 ("hypot and sqrt") means. Definitions only.
 use mathlib.Core.Path.{_≡_}
 use Prim.Native.Nat.{ℕ, _+_, _*_, _^_, _<_}
 use lib.IntN.{pos}
@@ -11,8 +11,8 @@ use Rattle.floats.specs.Count.{at, countOf}
 abbrev pub Nearer : ℕ → ℕ → ℕ → Type 0
 Nearer n j k = (j < k → n * 4 ^ 144 < (j + k) * (j + k)) × (k < j → (j + k) * (j + k) < n * 4 ^ 144)
 
--- x is an f32, not below zero, and strictly nearer to √n / 64 than any other: the root is never halfway between two.
--- (An f32 below zero is further away than its size, which is among the others.)
+-- x is an f32, not below zero, and strictly nearer to √n / 64 than any other finite one: the root is never halfway between two.
+-- (Those below zero need not be asked: each is further away than its size.)
 pub record Nearest (n : ℕ) (x : Float) : Type 0 where
   pub held : T (fits binary32 x)
   pub steps : ℕ

@@ -1,4 +1,4 @@
--- emath's vec2.rs: Vec2::normalized and Vec2::dot, in IEEE 754. Definitions only.
+-- emath's vec2.rs: Vec2::normalized and Vec2::dot, in IEEE 754. The search is defined by them; its code divides the part along the arrow only. Definitions only.
 use mathlib.Core.Bool.{Bool, true, false}
 use lib.Ieee.{Float, binary32, add, mul, div, le, ofBits}
 use Rattle.emath.specs.declared.Vec2.{Vec2}

@@ -19,7 +19,7 @@ fn steps(x: f32) -> u64
     std::num::truncating_f32_to_u64(grid::magnitude(x) * 64.0)
 }
 
-// The whole number nearest to the square root of n. It is never halfway between two.
+// The whole number nearest to the square root of n. The root is never halfway between two.
 fn whole_nearest(n: u64) -> u64
     ensures { λ r. ⌜ r ≡ wholeNearest n ⌝ }
 {
@@ -30,8 +30,8 @@ fn whole_nearest(n: u64) -> u64
     r + 1
 }
 
-// The f32 nearest to the square root of n, divided by 64: a power of four brings n to 47 or 48 binary digits, so that its root has the
-// 24 that an f32 keeps.
+// The f32 nearest to the square root of n, divided by 64: a power of four brings an n above 0 to 47 or 48 binary digits, so that its
+// root has the 24 that an f32 keeps.
 fn nearest(n: u64) -> f32
     requires { ⌜ n < 2 ^ 48 ⌝ }
     ensures { λ r. ⌜ r ≡ nearestOf n ⌝ }

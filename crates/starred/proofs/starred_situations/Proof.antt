@@ -11,13 +11,13 @@ use Rattle.input.specs.EventFilter.{matchesKey}
 use Rattle.vec2.specs.Length.{rootOf, wholeNearest, nearestOf, lengthOf}
 use Rattle.vec2.specs.Vec2.{normalizedOf, dotOf}
 use Rattle.candidate.specs.Candidate.{hasSignificantOverlap, rangeDiff, searchDirection, acosAngle, isInSearchCone, scoreOf, judgeOf}
-use Rattle.search.specs.Search.{judgedOf, inConeOf, goesFirst, isBetter, isBeaten, firstUnbeaten, findOf}
+use Rattle.search.specs.Search.{consideredOf, inConeOf, goesFirst, isBetter, isBeaten, firstUnbeaten, findOf}
 use Rattle.starred.specs.Starred.{holds, allHold}
 use Rattle.starred.proofs.starred_situations.Statement.{statement}
 use Rattle.starred.proofs.starred_situations.Tie as tie
 
 returns : tie.Need-returns
-unfolding holds allHold lowest countOf roundAway roundUi within sideRefusal toFactor leftTop stateRefusal matchesKey maxF minF spanOf centerOf intersectionOf rootOf wholeNearest nearestOf lengthOf normalizedOf dotOf hasSignificantOverlap rangeDiff searchDirection acosAngle isInSearchCone scoreOf judgeOf judgedOf inConeOf goesFirst isBetter isBeaten firstUnbeaten findOf toBits ofBits round size add sub mul div neg lt le eq isNan
+unfolding holds allHold lowest countOf roundAway roundUi within sideRefusal toFactor leftTop stateRefusal matchesKey maxF minF spanOf centerOf intersectionOf rootOf wholeNearest nearestOf lengthOf normalizedOf dotOf hasSignificantOverlap rangeDiff searchDirection acosAngle isInSearchCone scoreOf judgeOf consideredOf inConeOf goesFirst isBetter isBeaten firstUnbeaten findOf toBits ofBits round size add sub mul div neg lt le eq isNan
 returns c = refl
 
 pub starred-situations-spec : {M : Type 1} → statement M
