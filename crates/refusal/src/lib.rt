@@ -2,7 +2,8 @@
 ghost use mathlib.Core.Path.{_≡_};
 ghost use Rattle.refusal.specs.Refusal.{lowest, idRefusal, codeRefusal};
 
-// A call is accepted, an id is 0, a code passes the last of its kind, a number is off its grid, corners or a size are the wrong way round.
+// A call is accepted, an id is 0, a code passes the last of its kind, a number is off its grid, corners or a size are the wrong way round, a
+// table has no place left, a widget's record is of another layer than the call.
 pub const NONE: u64 = 0;
 
 pub const ZERO_ID: u64 = 1;
@@ -13,12 +14,23 @@ pub const OFF_GRID: u64 = 3;
 
 pub const REVERSED: u64 = 4;
 
+pub const FULL: u64 = 6;
+
+pub const OTHER_LAYER: u64 = 7;
+
+// How many widgets the registry holds.
+pub const WIDGETS: usize = 256;
+
 // The last code of each kind.
+pub const LAST_ORDER: u64 = 4;
+
 pub const LAST_KEY: u64 = 144;
 
 pub const LAST_MODIFIERS: u64 = 31;
 
 pub const LAST_PIVOT: u64 = 2;
+
+pub const LAST_SENSE: u64 = 7;
 
 // The lower of two refusals; 0 is none.
 pub fn lowest(a: u64, b: u64) -> u64

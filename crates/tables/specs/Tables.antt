@@ -1,0 +1,37 @@
+-- Tables in slices, for the maps and lists that document 01 turns into fixed tables ("Maps and sets"). Definitions only.
+use Prim.Native.Nat.{ℕ, zero, suc, _+_, _-_, _*_}
+use mathlib.Core.Bool.{Bool, cond, _&&_}
+use mathlib.Core.List.{List, [], _∷_, _++_}
+use lib.Dec.{eqb, ltb, leb}
+use lib.ListN.{length, getD, take, drop}
+use Rattle.tables.specs.declared.Found.{Found}
+use Rattle.tables.specs.declared.Found.the-variants.{At, Nothing}
+
+-- ---- the first place of a number, counted from i on
+unfoldable pub firstFrom : ℕ → List ℕ → ℕ → Found
+firstFrom i [] x = Nothing
+firstFrom i (y ∷ ys) x = cond (eqb y x) (At i) (firstFrom (suc i) ys x)
+
+abbrev pub firstAt : List ℕ → ℕ → Found
+firstAt xs x = firstFrom 0 xs x
+
+-- ---- whether a number stands at a place
+unfoldable pub standsAt : List ℕ → ℕ → ℕ → Bool
+standsAt xs at x = ltb at (length xs) && eqb (getD xs at 0) x
+
+module _ {A : Type 0} where
+  -- ---- a row put at a place, where all of it fits
+  unfoldable pub putAt : List A → ℕ → List A → List A
+  putAt xs at row = cond (leb (at + length row) (length xs)) (take at xs ++ row ++ drop (at + length row) xs) xs
+
+  -- ---- the first `by` taken out of a tail; its last `by` places keep what they had
+  unfoldable pub closed : ℕ → List A → List A
+  closed by tail = drop by tail ++ drop (length tail - by) tail
+
+  -- ---- a part of a list, from a up to b, that a function has changed
+  unfoldable pub onPart : (List A → List A) → ℕ → ℕ → List A → List A
+  onPart f a b xs = take a xs ++ f (take (b - a) (drop a xs)) ++ drop b xs
+
+  -- ---- row k of rows that are s long each
+  unfoldable pub rowAt : ℕ → ℕ → List A → List A
+  rowAt s k xs = take s (drop (s * k) xs)
