@@ -5,6 +5,7 @@
 //!     oracle hypot N     asks of N differences whether hypot gives the f32 nearest the root
 //!     oracle searches N SEED    what egui's directional search finds in N tables (oracle/search has the port's side)
 //!     oracle times       how long it takes
+//!     oracle inserts     how long an insert into egui's registry takes (oracle/registry has the port's side)
 #![allow(dead_code, unexpected_cfgs, unused_imports)]
 extern crate alloc;
 
@@ -15,7 +16,10 @@ mod convert;
 mod egui;
 mod emath;
 mod hypot;
+mod inserts;
 mod line;
+#[path = "../registry/pages.rs"]
+mod pages;
 mod refusals;
 #[path = "../compare/rng.rs"]
 mod rng;
@@ -58,7 +62,11 @@ fn main() -> std::io::Result<()> {
             searches::times();
             Ok(())
         }
-        _ => panic!("usage: oracle [falling | hypot N | searches N SEED | times]"),
+        ["inserts"] => {
+            inserts::times();
+            Ok(())
+        }
+        _ => panic!("usage: oracle [falling | hypot N | searches N SEED | times | inserts]"),
     }
 }
 

@@ -89,10 +89,37 @@ impl std::hash::Hasher for IdHasher {
 }
 
 /// The registry's map: its text names the standard map's own entries. It is never walked.
-pub type HashedIdMap<V> = HashMap<Id, V>;
+pub type HashedIdMap<V> = HashMap<Id, V, std::hash::BuildHasherDefault<IdHasher>>;
 
 pub mod ahash {
+    #[cfg(not(hashed))]
     pub type HashMap<K, V> = std::collections::BTreeMap<K, V>;
+    /// For times: a hash map with a hash that costs no more than ahash's.
+    #[cfg(hashed)]
+    pub type HashMap<K, V> =
+        std::collections::HashMap<K, V, std::hash::BuildHasherDefault<QuickHasher>>;
+
+    #[derive(Default)]
+    pub struct QuickHasher(u64);
+
+    impl std::hash::Hasher for QuickHasher {
+        fn write(&mut self, bytes: &[u8]) {
+            bytes.iter().for_each(|&b| self.write_u64(b.into()));
+        }
+
+        fn write_u64(&mut self, n: u64) {
+            self.0 = (self.0.rotate_left(23) ^ n).wrapping_mul(0x9e37_79b9_7f4a_7c15);
+        }
+
+        fn write_isize(&mut self, n: isize) {
+            self.write_u64(n as u64);
+        }
+
+        fn finish(&self) -> u64 {
+            self.0
+        }
+    }
+
     pub type HashSet<K> = std::collections::BTreeSet<K>;
 }
 

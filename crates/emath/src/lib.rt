@@ -10,6 +10,7 @@ ghost use Rattle.emath.specs.Pos2.{roundPos};
 ghost use Rattle.emath.specs.Range.{maxF, minF, spanOf, centerOf, intersectionOf};
 ghost use Rattle.emath.specs.Rect.{everything, fromMinSize, containsPos, xRange, yRange, roundRect};
 
+#[repr(C)]
 pub struct Pos2 {
     pub x: f32,
     pub y: f32,
@@ -25,6 +26,7 @@ pub struct Rangef {
     pub max: f32,
 }
 
+#[repr(C)]
 pub struct Rect {
     pub min: Pos2,
     pub max: Pos2,

@@ -3,6 +3,7 @@ ghost use mathlib.Core.Path.{_≡_};
 ghost use Rattle.layers.specs.Layers.{isLayer, layerRefusal};
 use refusal::LAST_ORDER;
 
+#[repr(C)]
 pub struct LayerId {
     pub order: u64,
     pub id: u64,

@@ -1,5 +1,6 @@
 // The calls of the protocol, a function each: words in, what the library answers out.
 use crate::print::Reply;
+use crate::registry;
 use crate::values;
 use crate::values::EventWords;
 use crate::words;
@@ -58,8 +59,8 @@ fn plain(number: usize, v: [u64; 20]) -> Reply {
     }
 }
 
-// What a line is answered.
-pub fn call(line: &[u8]) -> Reply {
+// What a line of a call without state is answered.
+fn stateless(line: &[u8]) -> Reply {
     let c = words::look_up(
         b"left_top_pos:fxxnnfxxf rect:fxxnnfxxf set_left_top_pos:fxxnnfxxfxx matches:ffff",
         line,
@@ -76,4 +77,48 @@ pub fn call(line: &[u8]) -> Reply {
         return plain(c.number, v);
     }
     Reply::Bad
+}
+
+// What a line is answered, and how many widgets are then held.
+pub struct Answered {
+    pub reply: Reply,
+    pub count: usize,
+}
+
+fn call(
+    line: &[u8],
+    cells: &mut [u64],
+    ids: &mut [u64],
+    words: &mut [u64],
+    rects: &mut [f32],
+    count: usize,
+) -> Answered {
+    let c = registry::look_up(line);
+    if c.words.fit {
+        let v = c.words.v;
+        return registry::call(c.number, v, cells, ids, words, rects, count);
+    }
+    Answered {
+        reply: stateless(line),
+        count: count,
+    }
+}
+
+// What the first bytes of a line's buffer are answered.
+pub fn answer(
+    line: &[u8],
+    held: usize,
+    cells: &mut [u64],
+    ids: &mut [u64],
+    words: &mut [u64],
+    rects: &mut [f32],
+    count: usize,
+) -> Answered {
+    if line.len() < held {
+        return Answered {
+            reply: Reply::Bad,
+            count: count,
+        };
+    }
+    call(&line[..held], cells, ids, words, rects, count)
 }

@@ -1,16 +1,17 @@
-// Answers the lines of ../shared/REPLAY.md from standard input, one line each, from the proved libraries. Today four calls are
-// answered, and every other line is `bad`.
+// Answers the lines of ../shared/REPLAY.md from standard input, one line each, from the proved libraries. A line of a call that is not ported
+// yet is `bad`. The state is in tables that are lent down to the calls; how many widgets are held goes along by value.
 ghost use mathlib.Core.Path.{_≡_};
 ghost use lib.ListN.{length};
 
 mod calls;
 mod print;
+mod registry;
 mod values;
 mod words;
 
-use crate::print::Reply;
 use libc::STDIN_FILENO;
 use libc::STDOUT_FILENO;
+use refusal::WIDGETS;
 
 // So that the reading ends: rounds of 65,536 bytes, 2^32 bytes in all.
 const ROUNDS: usize = 65536;
@@ -22,10 +23,11 @@ fn output() -> [u8; 262144]
     [0; 262144]
 }
 
-// How much of the line's buffer is taken, past its end where the line does not fit, and how much of the output.
+// How much of the line's buffer is taken, past its end where the line does not fit, how much of the output, and how many widgets are held.
 struct Progress {
     held: usize,
     used: usize,
+    count: usize,
 }
 
 fn write(out: &[u8], used: usize) {
@@ -34,30 +36,50 @@ fn write(out: &[u8], used: usize) {
     }
 }
 
-fn reply(line: &[u8], held: usize) -> Reply {
-    if line.len() < held {
-        return Reply::Bad;
+// The answer to the first bytes of the line's buffer, `bad` where the line or its answer does not fit.
+fn put_answer(
+    line: &[u8],
+    out: &mut [u8],
+    cells: &mut [u64],
+    ids: &mut [u64],
+    words: &mut [u64],
+    rects: &mut [f32],
+    before: Progress,
+) -> Progress {
+    let a = calls::answer(line, before.held, cells, ids, words, rects, before.count);
+    let reply = a.reply;
+    let end = print::answer(out, before.used, reply, ids, words, rects, a.count);
+    Progress {
+        held: 0,
+        used: unless_full(out, before.used, end),
+        count: a.count,
     }
-    calls::call(&line[..held])
 }
 
-// Puts the answer to the first bytes of the line's buffer, `bad` where the line or its answer does not fit.
-fn put_answer(line: &[u8], held: usize, out: &mut [u8], used: usize) -> usize {
-    let end = print::answer(out, used, reply(line, held));
+// The end of an answer, or of `bad` in its place where it does not fit.
+fn unless_full(out: &mut [u8], used: usize, end: usize) -> usize {
     if out.len() < end {
-        return print::answer(out, used, Reply::Bad);
+        return print::bad(out, used);
     }
     end
 }
 
 // Ends a line: its answer, and what is gathered goes out where it takes more than half of the room.
-fn end_line(line: &[u8], held: usize, out: &mut [u8], used: usize) -> usize {
-    let end = put_answer(line, held, out, used);
-    if out.len() / 2 < end {
-        write(out, end);
-        return 0;
+fn end_line(
+    line: &[u8],
+    out: &mut [u8],
+    cells: &mut [u64],
+    ids: &mut [u64],
+    words: &mut [u64],
+    rects: &mut [f32],
+    before: Progress,
+) -> Progress {
+    let mut now = put_answer(line, out, cells, ids, words, rects, before);
+    if out.len() / 2 < now.used {
+        write(out, now.used);
+        now.used = 0;
     }
-    end
+    now
 }
 
 // Takes in a part of a line, which may end it.
@@ -66,55 +88,96 @@ fn take_part(
     ends: bool,
     line: &mut [u8],
     out: &mut [u8],
+    cells: &mut [u64],
+    ids: &mut [u64],
+    words: &mut [u64],
+    rects: &mut [f32],
     before: Progress,
 ) -> Progress {
-    let held = text::put_bytes(line, before.held, part);
+    let mut now = before;
+    now.held = text::put_bytes(line, before.held, part);
     if ends {
-        return Progress {
-            held: 0,
-            used: end_line(line, held, out, before.used),
-        };
+        return end_line(line, out, cells, ids, words, rects, now);
     }
-    Progress {
-        held: held,
-        used: before.used,
-    }
+    now
 }
 
 // Takes in a chunk of the input: byte 10 ends a line.
-fn take_chunk(chunk: &[u8], line: &mut [u8], out: &mut [u8], before: Progress) -> Progress {
+fn take_chunk(
+    chunk: &[u8],
+    line: &mut [u8],
+    out: &mut [u8],
+    cells: &mut [u64],
+    ids: &mut [u64],
+    words: &mut [u64],
+    rects: &mut [f32],
+    before: Progress,
+) -> Progress {
     let mut now = before;
     let mut i: usize = 0;
     while i < chunk.len() {
         let e = text::find(chunk, i, b'\n');
-        now = take_part(&chunk[i..e], e < chunk.len(), line, out, now);
+        let ends = e < chunk.len();
+        now = take_part(&chunk[i..e], ends, line, out, cells, ids, words, rects, now);
         i = e + 1;
     }
     now
 }
 
 // Takes in the whole input, a chunk a round.
-fn take_all(chunk: &mut [u8], line: &mut [u8], out: &mut [u8]) -> Progress {
-    let mut now = Progress { held: 0, used: 0 };
+fn take_all(
+    chunk: &mut [u8],
+    line: &mut [u8],
+    out: &mut [u8],
+    cells: &mut [u64],
+    ids: &mut [u64],
+    words: &mut [u64],
+    rects: &mut [f32],
+) -> Progress {
+    let mut now = Progress {
+        held: 0,
+        used: 0,
+        count: 0,
+    };
     for _ in 0..ROUNDS {
         let n = io::read_full(STDIN_FILENO, chunk);
         if n == 0 {
             return now;
         }
-        now = take_chunk(&chunk[..n], line, out, now);
+        now = take_chunk(&chunk[..n], line, out, cells, ids, words, rects, now);
     }
     now
 }
 
 // The whole input, and a last line that no byte 10 ends.
 fn session(chunk: &mut [u8], line: &mut [u8], out: &mut [u8]) {
-    let last = take_all(chunk, line, out);
+    let mut cells = [0u64; 2 * WIDGETS];
+    let mut ids = [0u64; WIDGETS];
+    let mut words = [0u64; 10 * WIDGETS];
+    let mut rects = [0.0f32; 16 * WIDGETS];
+    let last = take_all(
+        chunk,
+        line,
+        out,
+        &mut cells,
+        &mut ids,
+        &mut words,
+        &mut rects,
+    );
     if last.held == 0 {
         write(out, last.used);
         return;
     }
-    let used = put_answer(line, last.held, out, last.used);
-    write(out, used);
+    let end = put_answer(
+        line,
+        out,
+        &mut cells,
+        &mut ids,
+        &mut words,
+        &mut rects,
+        last,
+    );
+    write(out, end.used);
 }
 
 fn main() {

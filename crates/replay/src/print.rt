@@ -3,15 +3,26 @@ use crate::values;
 use area::AreaState;
 use emath::Pos2;
 use emath::Rect;
+use layers::LayerId;
+use refusal::WIDGETS;
+use widget_rect::WidgetRect;
+use widget_rects::lent;
+use widget_table::Listed;
 
 // What a line is answered: Bad where it does not fit the protocol.
 pub enum Reply {
     Bad,
+    Done,
+    Nothing,
     Refused(u64),
     Flag(bool),
     Pos(Pos2),
     Rect(Rect),
     State(AreaState),
+    Order(LayerId, u64),
+    Widget(WidgetRect),
+    // The widgets of a layer, or the ids of those that are focusable.
+    List(LayerId, bool),
 }
 
 fn put_refused(out: &mut [u8], at: usize, n: u64) -> usize {
@@ -56,19 +67,142 @@ fn put_words(out: &mut [u8], at: usize, kinds: &[u8], v: [u64; 20]) -> usize {
     place
 }
 
-fn put_reply(out: &mut [u8], at: usize, r: Reply) -> usize {
+// A space and a widget's record.
+fn put_widget(out: &mut [u8], at: usize, w: WidgetRect) -> usize {
+    let i = text::put_bytes(out, at, b" ");
+    put_words(out, i, b"nnnnxxxxxxxxnff", values::widget_words(w))
+}
+
+// The records of a layer's list.
+fn put_widgets(
+    out: &mut [u8],
+    at: usize,
+    ids: &[u64],
+    words: &[u64],
+    rects: &[f32],
+    count: usize,
+    layer: LayerId,
+) -> usize {
+    let mut place = at;
+    let mut from: usize = 0;
+    for _ in 0..WIDGETS {
+        match widget_table::next_in_layer(ids, words, rects, count, from, layer) {
+            Listed::End => return place,
+            Listed::Widget(next, w) => {
+                place = put_widget(out, place, w);
+                from = next;
+            }
+        }
+    }
+    place
+}
+
+// How many a layer's list has.
+fn widgets(ids: &[u64], words: &[u64], rects: &[f32], count: usize, layer: LayerId) -> u64 {
+    let mut n: u64 = 0;
+    let mut from: usize = 0;
+    for _ in 0..WIDGETS {
+        match widget_table::next_in_layer(ids, words, rects, count, from, layer) {
+            Listed::End => return n,
+            Listed::Widget(next, _) => {
+                n = plus_one(n);
+                from = next;
+            }
+        }
+    }
+    n
+}
+
+fn plus_one(n: u64) -> u64 {
+    if n < 18446744073709551615 { n + 1 } else { n }
+}
+
+// The first n numbers, with a space before each.
+fn put_numbers(out: &mut [u8], at: usize, numbers: &[u64], n: usize) -> usize {
+    let mut place = at;
+    let mut i: usize = 0;
+    while i < numbers.len() {
+        if n <= i {
+            return place;
+        }
+        place = put_next(out, place, b'n', numbers[i]);
+        i += 1;
+    }
+    place
+}
+
+fn put_focusable(
+    out: &mut [u8],
+    at: usize,
+    ids: &[u64],
+    words: &[u64],
+    rects: &[f32],
+    count: usize,
+    layer: LayerId,
+) -> usize {
+    let mut found = [0u64; WIDGETS];
+    let n = lent::focusable_widgets(ids, words, rects, count, layer, &mut found);
+    let i = text::put_number(out, at, n as u64);
+    put_numbers(out, i, &found, n)
+}
+
+fn put_list(
+    out: &mut [u8],
+    at: usize,
+    ids: &[u64],
+    words: &[u64],
+    rects: &[f32],
+    count: usize,
+    layer: LayerId,
+) -> usize {
+    let n = widgets(ids, words, rects, count, layer);
+    let i = text::put_number(out, at, n);
+    put_widgets(out, i, ids, words, rects, count, layer)
+}
+
+fn put_reply(
+    out: &mut [u8],
+    at: usize,
+    r: Reply,
+    ids: &[u64],
+    words: &[u64],
+    rects: &[f32],
+    count: usize,
+) -> usize {
     match r {
         Reply::Bad => text::put_bytes(out, at, b"bad"),
+        Reply::Done => text::put_bytes(out, at, b"ok"),
+        Reply::Nothing => text::put_bytes(out, at, b"none"),
         Reply::Refused(n) => put_refused(out, at, n),
         Reply::Flag(b) => put_flag(out, at, b),
         Reply::Pos(p) => put_words(out, at, b"xx", values::pos_words(p)),
         Reply::Rect(r) => put_words(out, at, b"xxxx", values::rect_words(r)),
         Reply::State(s) => put_words(out, at, b"fxxnnfxxf", values::state_words(s)),
+        Reply::Order(l, i) => put_words(out, at, b"nnn", values::order_words(l, i)),
+        Reply::Widget(w) => put_words(out, at, b"nnnnxxxxxxxxnff", values::widget_words(w)),
+        Reply::List(l, focusable) => {
+            if focusable {
+                return put_focusable(out, at, ids, words, rects, count, l);
+            }
+            put_list(out, at, ids, words, rects, count, l)
+        }
     }
 }
 
 // An answer with the end of its line.
-pub fn answer(out: &mut [u8], at: usize, r: Reply) -> usize {
-    let i = put_reply(out, at, r);
+pub fn answer(
+    out: &mut [u8],
+    at: usize,
+    r: Reply,
+    ids: &[u64],
+    words: &[u64],
+    rects: &[f32],
+    count: usize,
+) -> usize {
+    let i = put_reply(out, at, r, ids, words, rects, count);
     text::put_bytes(out, i, b"\n")
+}
+
+pub fn bad(out: &mut [u8], at: usize) -> usize {
+    text::put_bytes(out, at, b"bad\n")
 }

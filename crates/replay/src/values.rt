@@ -10,7 +10,9 @@ use emath::Rect;
 use float_bits::Bits;
 use input::Event;
 use input::EventFilter;
+use layers::LayerId;
 use text::Place;
+use widget_rect::WidgetRect;
 
 fn pos(x: u64, y: u64) -> Pos2 {
     Pos2 {
@@ -50,6 +52,32 @@ pub fn state(v: [u64; 20]) -> AreaState {
         pivot: Align2 { x: v[3], y: v[4] },
         size: size,
         interactable: v[8] == 1,
+    }
+}
+
+fn rect(x0: u64, y0: u64, x1: u64, y1: u64) -> Rect {
+    Rect {
+        min: pos(x0, y0),
+        max: pos(x1, y1),
+    }
+}
+
+// The record of `insert`, after the call's layer.
+pub fn widget(v: [u64; 20]) -> WidgetRect {
+    let outer = rect(v[6], v[7], v[8], v[9]);
+    let interact_rect = rect(v[10], v[11], v[12], v[13]);
+    WidgetRect {
+        id: v[2],
+        parent_id: v[3],
+        layer_id: LayerId {
+            order: v[4],
+            id: v[5],
+        },
+        rect: outer,
+        interact_rect: interact_rect,
+        sense: v[14],
+        enabled: v[15] == 1,
+        visible: v[16] == 1,
     }
 }
 
@@ -206,5 +234,45 @@ pub fn state_words(s: AreaState) -> [u64; 20] {
     v[6] = z.x;
     v[7] = z.y;
     v[8] = flag(s.interactable);
+    v
+}
+
+// The record of a widget: id, parent id, layer, two rectangles, sense, enabled, visible.
+pub fn widget_words(w: WidgetRect) -> [u64; 20] {
+    let layer_id = w.layer_id;
+    let outer = w.rect;
+    let inner = w.interact_rect;
+    let r = rect_words(outer);
+    let i = rect_words(inner);
+    [
+        w.id,
+        w.parent_id,
+        layer_id.order,
+        layer_id.id,
+        r[0],
+        r[1],
+        r[2],
+        r[3],
+        i[0],
+        i[1],
+        i[2],
+        i[3],
+        w.sense,
+        flag(w.enabled),
+        flag(w.visible),
+        0,
+        0,
+        0,
+        0,
+        0,
+    ]
+}
+
+// In which layer, and at which place of its list.
+pub fn order_words(layer: LayerId, index: u64) -> [u64; 20] {
+    let mut v = [0; 20];
+    v[0] = layer.order;
+    v[1] = layer.id;
+    v[2] = index;
     v
 }

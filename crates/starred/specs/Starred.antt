@@ -1,6 +1,6 @@
 -- Document 01's starred panel situations as one table, those that the crates so far can state: each line is what goes in and what must come out.
 -- Definitions only.
-use Prim.Native.Nat.{ℕ}
+use Prim.Native.Nat.{ℕ, _*_}
 use mathlib.Core.Bool.{Bool, true, false, _&&_, Bool·beq}
 use mathlib.Core.List.{List, [], _∷_}
 use lib.Dec.{eqb}
@@ -20,6 +20,10 @@ use Rattle.input.specs.EventFilter.{defaultFilter, matchesOf, matchedAnswer}
 use Rattle.input.specs.FocusDirection.{up, right, down, left}
 use Rattle.candidate.specs.Candidate.{rangeDiff, isInSearchCone}
 use Rattle.search.specs.declared.Candidate.{Candidate}
+use Rattle.refusal.specs.Limits.{widgets}
+use Rattle.layers.specs.declared.LayerId.{LayerId}
+use Rattle.widget_rect.specs.declared.WidgetRect.{WidgetRect}
+use Rattle.widget_table.specs.Table.{Table, newTable, insertOf, listOf}
 use Rattle.search.specs.Search.{findOf}
 
 -- n / d and -n / d as f32, and whether two f32 are the same, the sign of a zero too
@@ -43,6 +47,8 @@ pub data Situation : Type 0 where
   inCone : Float → Float → ℕ → Bool → Situation
   -- a direction, candidates with their ids, seen from the point (0, 0), and which is found
   finds : ℕ → List Candidate → ℕ → Situation
+  -- the ids of widgets that are inserted into one layer, the last first, each with whether it goes to the top; the layer's list
+  listed : List (ℕ × Bool) → List ℕ → Situation
 
 abbrev pub areaAt : Float → ℕ → Float → Float → ℕ → Float → AreaState
 areaAt px fx w py fy h = record { «pivot_pos» = PivotPos.At px py; pivot = record { x = fx; y = fy }; size = Size.Of w h; interactable = true }
@@ -59,12 +65,30 @@ isMatched b (Matched.Refused n) = false
 abbrev pub pointAt : Float → Float → Rect
 pointAt x y = record { min = record { x = x; y = y }; max = record { x = x; y = y } }
 
+abbrev pub oneLayer : LayerId
+oneLayer = record { order = 1; id = 7 }
+
+abbrev pub widgetOf : ℕ → WidgetRect
+widgetOf id = record { id = id; «parent_id» = 9; «layer_id» = oneLayer; rect = pointAt (plus 0 1) (plus 0 1); «interact_rect» = pointAt (plus 0 1) (plus 0 1); sense = 4; enabled = true; visible = true }
+
+-- the registry of 256 widgets after the inserts
+unfoldable pub registered : List (ℕ × Bool) → Table
+registered [] = newTable (2 * widgets) widgets
+registered (w ∷ before) = insertOf (registered before) oneLayer (widgetOf (w .0)) (w .1)
+
+unfoldable pub sameIds : List WidgetRect → List ℕ → Bool
+sameIds [] [] = true
+sameIds (w ∷ list) (id ∷ ids) = eqb (w .id) id && sameIds list ids
+sameIds [] (id ∷ ids) = false
+sameIds (w ∷ list) [] = false
+
 unfoldable pub holds : Situation → Bool
 holds (leftTopAt px fx w py fy h x y) = isAt x y (posAnswer (stateRefusal (areaAt px fx w py fy h)) (leftTop (areaAt px fx w py fy h)))
 holds (keyMatches key b) = isMatched b (matchedAnswer (eventRefusal (Key key true false 0)) (matchesOf defaultFilter (Key key true false 0)))
 holds (apart a0 a1 b0 b1 d) = same (rangeDiff (record { min = a0; max = a1 }) (record { min = b0; max = b1 })) d
 holds (inCone x y k b) = Bool·beq b (isInSearchCone (record { x = x; y = y }) k)
 holds (finds k table id) = eqb (findOf table 0 (pointAt (plus 0 1) (plus 0 1)) k) id
+holds (listed inserts ids) = sameIds (listOf (registered inserts) oneLayer) ids
 
 unfoldable pub allHold : List Situation → Bool
 allHold [] = true
@@ -99,4 +123,6 @@ situations =
     ∷ inCone (plus 0 1) (plus 0 1) left false
     -- Right, candidates at (5, 0) and (4, 1): the second wins
     ∷ finds right (record { id = 1; rect = pointAt (plus 5 1) (plus 0 1) } ∷ record { id = 2; rect = pointAt (plus 4 1) (plus 1 1) } ∷ []) 2
+    -- widgets 1, 2, 3, then 1 again to the top: list 2, 3, 1
+    ∷ listed ((1, true) ∷ (3, false) ∷ (2, false) ∷ (1, false) ∷ []) (2 ∷ 3 ∷ 1 ∷ [])
     ∷ []

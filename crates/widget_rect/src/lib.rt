@@ -7,6 +7,7 @@ use refusal::LAST_SENSE;
 use refusal::NONE;
 use refusal::OTHER_LAYER;
 
+#[repr(C)]
 pub struct WidgetRect {
     pub id: u64,
     pub parent_id: u64,

@@ -30,6 +30,7 @@ pub enum Listed {
     Widget(usize, WidgetRect),
 }
 
+#[repr(C)]
 pub struct Inserted {
     pub refusal: u64,
     pub count: usize,
