@@ -1,5 +1,6 @@
 // Runs the leaves at their limits and prints what each call answers, a line each; the file stdout has what must come out.
 // A refusal is printed as 'no' and its number.
+mod registry;
 mod searches;
 
 use area::Align2;
@@ -272,4 +273,5 @@ fn main() {
     moves();
     keys();
     searches::searches();
+    registry::registry();
 }

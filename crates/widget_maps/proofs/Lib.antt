@@ -15,3 +15,4 @@ pub mod Led
 pub mod Vacant
 pub mod Updated
 pub mod Holds
+pub mod Record

@@ -56,14 +56,23 @@ abbrev pub containsIn : Entry → ContainsAnswer
 containsIn Vacant = ContainsIs false
 containsIn (Occupied idx w) = ContainsIs true
 
+abbrev pub orderOf : ℕ → Entry → OrderAnswer
+orderOf id = answered orderIn OrderRefused (idRefusal id)
+
+abbrev pub widgetOf : ℕ → Entry → WidgetAnswer
+widgetOf id = answered widgetIn WidgetRefused (idRefusal id)
+
+abbrev pub containsOf : ℕ → Entry → ContainsAnswer
+containsOf id = answered containsIn ContainsRefused (idRefusal id)
+
 unfoldable pub orderAnswer : Table → ℕ → OrderAnswer
-orderAnswer t id = answered orderIn OrderRefused (idRefusal id) (entryOf t id)
+orderAnswer t id = orderOf id (entryOf t id)
 
 unfoldable pub widgetAnswer : Table → ℕ → WidgetAnswer
-widgetAnswer t id = answered widgetIn WidgetRefused (idRefusal id) (entryOf t id)
+widgetAnswer t id = widgetOf id (entryOf t id)
 
 unfoldable pub containsAnswer : Table → ℕ → ContainsAnswer
-containsAnswer t id = answered containsIn ContainsRefused (idRefusal id) (entryOf t id)
+containsAnswer t id = containsOf id (entryOf t id)
 
 -- ---- `get_layer`, `focusable_widgets_in_layer` (lines 150 to 165), from the layer's list
 unfoldable pub focusableIds : List WidgetRect → List ℕ
@@ -92,8 +101,14 @@ noListing n = record { refusal = n; count = 0; widgets = replicate widgets blank
 abbrev pub noIds : ℕ → Ids
 noIds n = record { refusal = n; count = 0; ids = replicate widgets 0 }
 
+abbrev pub layerOf : LayerId → List WidgetRect → Listing
+layerOf layer = answered listing noListing (layerRefusal layer)
+
+abbrev pub focusableOf : LayerId → List WidgetRect → Ids
+focusableOf layer = answered (λ list. idsOf (focusableIds list)) noIds (layerRefusal layer)
+
 unfoldable pub listAnswer : Table → LayerId → Listing
-listAnswer t layer = answered listing noListing (layerRefusal layer) (listOf t layer)
+listAnswer t layer = layerOf layer (listOf t layer)
 
 unfoldable pub idsAnswer : Table → LayerId → Ids
-idsAnswer t layer = answered (λ list. idsOf (focusableIds list)) noIds (layerRefusal layer) (listOf t layer)
+idsAnswer t layer = focusableOf layer (listOf t layer)

@@ -1,9 +1,8 @@
--- The theorem of the crate is the one of proofs/Holds.antt. Assumes nothing.
+-- `widget_maps::table_holds_the_maps` is the theorem of proofs/Holds.antt. Assumes nothing.
 use Rattle.widget_maps.proofs.table_holds_the_maps.Statement.{statement}
 use Rattle.widget_maps.proofs.table_holds_the_maps.Tie as tie
 use Rattle.widget_maps.proofs.Holds.{theorem}
 
--- src/lib.rt:7:1
 returns : tie.Need-returns
 returns c = theorem
 
