@@ -341,10 +341,14 @@ impl Draw {
     /// A registry call's layer and the record of an id.
     pub fn record_of(&mut self, id: u64) -> String {
         let layer = self.layer();
+        self.record_in(&layer, id)
+    }
+
+    pub fn record_in(&mut self, layer: &str, id: u64) -> String {
         let of = if self.bad() {
             self.layer()
         } else {
-            layer.clone()
+            layer.to_owned()
         };
         let parent = self.id();
         let (rect, interact) = (self.rect(), self.rect());

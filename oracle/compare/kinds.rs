@@ -4,6 +4,7 @@ use crate::draw::Draw;
 use crate::keys;
 use crate::limits;
 use crate::pages;
+use crate::registry;
 use crate::rng::Rng;
 use crate::tables;
 
@@ -18,7 +19,8 @@ pub const KINDS: &[(&str, usize, Kind)] = &[
     ("malformed", 5, malformed),
     ("malformed leaves", 1, malformed_leaves),
     ("limits", 0, limits::limits),
-    ("registry", 1, tables::registry),
+    ("registry", 1, registry::registry),
+    ("widget pages", 0, registry::page),
     ("areas", 1, tables::areas),
     ("hits", 0, tables::hits),
     ("popups", 1, tables::popups),

@@ -1,19 +1,20 @@
 //! Every limit from both sides: a table filled up to it and past it, with other refusals beside it; a list as long as may be and longer.
 use crate::draw::Draw;
+use crate::registry;
 
 pub fn limits(d: &mut Draw) -> Vec<String> {
     match d.rng.below(40) {
         0 => long_lines(d),
         1..9 => full_stack(d),
         9..17 => full_cache(d),
-        17..25 => full_registry(d),
+        17..25 => registry::full(d),
         25..33 => long_events(d),
         _ => long_used(d),
     }
 }
 
 /// The ids from 1 to a count near the limit.
-fn near(d: &mut Draw, limit: u64) -> Vec<u64> {
+pub fn near(d: &mut Draw, limit: u64) -> Vec<u64> {
     let count = limit - 2 + d.rng.below(4) as u64;
     let mut ids: Vec<u64> = (1..=count).collect();
     if d.rng.percent(50) {
@@ -23,7 +24,7 @@ fn near(d: &mut Draw, limit: u64) -> Vec<u64> {
 }
 
 /// Once the table is full, other refusals join the one for its limit.
-fn turn_hostile(d: &mut Draw) {
+pub fn turn_hostile(d: &mut Draw) {
     d.malice = d.rng.pick(&[0, 10, 25]);
 }
 
@@ -119,50 +120,6 @@ fn beside_full_cache(d: &mut Draw) -> String {
         5 => d.call("interest"),
         6 => format!("interest {id} {}", d.layer()),
         _ => format!("interest {id} 1 7"),
-    }
-}
-
-fn widgets(d: &mut Draw, ids: Vec<u64>, layers: usize) -> Vec<String> {
-    let fill = ids.into_iter().map(|id| {
-        let layer = 7 + d.rng.below(layers);
-        let (rect, top) = (d.rect(), d.rng.below(2));
-        format!("insert 1 {layer} {id} 9 1 {layer} {rect} {rect} 4 1 1 {top}")
-    });
-    fill.collect()
-}
-
-fn full_registry(d: &mut Draw) -> Vec<String> {
-    let count = 1 + d.rng.below(2);
-    let ids = near(d, 256);
-    let mut lines = widgets(d, ids, count);
-    if d.rng.percent(30) {
-        lines.push("clear".to_owned());
-        let ids = near(d, 256);
-        lines.append(&mut widgets(d, ids, count));
-    }
-    turn_hostile(d);
-    for _ in 0..14 {
-        lines.push(beside_full_registry(d));
-    }
-    lines
-}
-
-fn beside_full_registry(d: &mut Draw) -> String {
-    let id = 250 + d.rng.below(12) as u64;
-    match d.rng.below(10) {
-        0 => format!("order {id}"),
-        1 => format!("insert 1 7 {id} 9 1 8 {} {} 3 0 1 0", d.rect(), d.rect()),
-        2 => format!("insert {} 1", d.record_of(1)),
-        3 | 4 => format!("insert {} 0", d.record_of(id)),
-        5 => d.call("get_layer"),
-        _ => {
-            let top = d.rng.below(2);
-            format!(
-                "insert 1 7 {id} 9 1 7 {} {} 3 0 1 {top}",
-                d.rect(),
-                d.rect()
-            )
-        }
     }
 }
 

@@ -13,6 +13,7 @@ mod kinds;
 mod limits;
 mod pages;
 mod programs;
+mod registry;
 mod rng;
 mod shrink;
 mod tables;

@@ -1,7 +1,7 @@
-//! Lists about the tables: layers that share an id, what a point hits, the registry, popups.
+//! Lists about the tables: layers that share an id, what a point hits, popups.
 use crate::draw::{Draw, steps};
 
-fn mixed(d: &mut Draw, calls: &[&'static str], count: usize) -> Vec<String> {
+pub fn mixed(d: &mut Draw, calls: &[&'static str], count: usize) -> Vec<String> {
     (0..count)
         .map(|_| {
             let name = d.rng.pick(calls);
@@ -67,30 +67,6 @@ pub fn areas(d: &mut Draw) -> Vec<String> {
     if d.rng.percent(10) {
         let place = d.rng.below(lines.len());
         lines.insert(place, "reset_areas".to_owned());
-    }
-    lines
-}
-
-pub fn registry(d: &mut Draw) -> Vec<String> {
-    let calls = [
-        "insert",
-        "insert",
-        "insert",
-        "insert",
-        "insert",
-        "insert",
-        "order",
-        "widget",
-        "contains",
-        "get_layer",
-        "focusable_widgets_in_layer",
-        "state",
-    ];
-    let count = 5 + d.rng.below(60);
-    let mut lines = mixed(d, &calls, count);
-    if d.rng.percent(30) {
-        let place = d.rng.below(lines.len());
-        lines.insert(place, "clear".to_owned());
     }
     lines
 }

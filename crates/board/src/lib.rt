@@ -1,7 +1,7 @@
 // What a C or Rust program on the board links against: numbers and slices in, a number out. A slice is two arguments in C, where it
 // starts and how many elements it has. Each function gives what the one that it calls gives.
 ghost use mathlib.Core.Path.{_≡_};
-ghost use Rattle.widget_table.specs.Table.{tableIn, refusalOf, insertOf};
+ghost use Rattle.widget_table.specs.Table.{tableIn, refusalOf, insertOf, clearedCells};
 ghost use Rattle.search.specs.Search.{tableOf, findOf};
 use emath::Pos2;
 use emath::Rect;
@@ -49,4 +49,12 @@ pub extern "C" fn jaturemi_insert(
     ensures { λ r. ⌜ (r .refusal ≡ refusalOf (tableIn count (now (cells .entry)) (now (ids .entry)) (now (words .entry)) (now (rects .entry))) layer new) × (tableIn (r .count) (now (cells .exit)) (now (ids .exit)) (now (words .exit)) (now (rects .exit)) ≡ insertOf (tableIn count (now (cells .entry)) (now (ids .entry)) (now (words .entry)) (now (rects .entry))) layer new «move_to_top») ⌝ }
 {
     widget_table::insert(cells, ids, words, rects, count, layer, new, move_to_top)
+}
+
+// `widget_table::clear`.
+#[no_mangle]
+pub extern "C" fn jaturemi_clear(cells: &mut [u64]) -> usize
+    ensures { λ r. ⌜ (r ≡ 0) × (now (cells .exit) ≡ clearedCells (now (cells .entry))) ⌝ }
+{
+    widget_table::clear(cells)
 }

@@ -20,7 +20,7 @@ use Rattle.widget_table.specs.declared.Entry.{Entry}
 use Rattle.widget_table.specs.declared.Entry.the-variants.{Vacant}
 use Rattle.widget_table.specs.Table.{Rows, Table, roomOf, heldIn, heldOf, foundIn, entryAt, entryOf, listOf, refusalOf, recordAt, joinedAt, fullRefusal, unlessRefused, insertAt, insertOf, seenAt, newTable, clearOf}
 use Rattle.widget_maps.specs.Egui.{WidgetRects, insertedBy, inserted, fullRefusal as eguiFull, refusal, cleared}
-use Rattle.widget_maps.specs.Calls.{Calls, Insert, Clear, table, egui, unlessRefused as eguiUnless, eguiAfter, Agrees}
+use Rattle.widget_maps.specs.Calls.{Calls, Insert, Clear, table, egui, unlessRefused as eguiUnless, eguiAfter}
 use Rattle.widget_maps.proofs.Row.{rowOf, rowsTo}
 use Rattle.widget_maps.proofs.Meaning.{entryRows, Means, Sound}
 use Rattle.widget_maps.proofs.Laws.{same-layers}
@@ -30,6 +30,13 @@ use Rattle.widget_maps.proofs.Listing.{rows-length, list-rows}
 use Rattle.widget_maps.proofs.Rowwise.{Fits, Alike, room-fits, same-room, pushed-rows, pushed-alike}
 use Rattle.widget_maps.proofs.Led.{Led, found-at, entry-rows, led-to}
 use Rattle.widget_maps.proofs.Updated.{updated}
+
+-- ---- a table and the maps and lists say the same of every id and every layer, and refuse the same
+abbrev Agrees : ℕ → Table → WidgetRects → Type 0
+Agrees limit t m =
+    ((id : ℕ) → entryOf t id ≡ m .byId id)
+    × ((layer : LayerId) → listOf t layer ≡ m .byLayer layer)
+    × ((layer : LayerId) (widget : WidgetRect) → refusalOf t layer widget ≡ refusal limit m layer widget)
 
 -- where nothing is refused, the test has passed
 passed : (b : Bool) (n : ℕ) → cond b zero (suc n) ≡ zero → b ≡ true

@@ -1,11 +1,10 @@
 -- The calls that change the registry, in a list, and what they leave: of the table, and of the maps and lists of egui. Definitions only.
-use mathlib.Core.Path.{_≡_}
 use Prim.Native.Nat.{ℕ, zero, suc}
 use mathlib.Core.Bool.{Bool}
 use mathlib.Core.List.{List, [], _∷_}
 use Rattle.layers.specs.declared.LayerId.{LayerId}
 use Rattle.widget_rect.specs.declared.WidgetRect.{WidgetRect}
-use Rattle.widget_table.specs.Table.{Table, newTable, insertOf, clearOf, entryOf, listOf, refusalOf}
+use Rattle.widget_table.specs.Table.{Table, newTable, insertOf, clearOf}
 use Rattle.widget_maps.specs.Egui.{WidgetRects, inserted, refusal, cleared}
 
 pub data Call : Type 0 where
@@ -37,10 +36,3 @@ eguiAfter limit Clear m = cleared
 unfoldable pub egui : ℕ → Calls → WidgetRects
 egui limit [] = cleared
 egui limit (call ∷ before) = eguiAfter limit call (egui limit before)
-
--- ---- a table and the maps and lists say the same of every id and every layer, and refuse the same
-abbrev pub Agrees : ℕ → Table → WidgetRects → Type 0
-Agrees limit t m =
-    ((id : ℕ) → entryOf t id ≡ m .byId id)
-    × ((layer : LayerId) → listOf t layer ≡ m .byLayer layer)
-    × ((layer : LayerId) (widget : WidgetRect) → refusalOf t layer widget ≡ refusal limit m layer widget)

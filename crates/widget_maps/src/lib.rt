@@ -1,17 +1,33 @@
 // What the registry of crates `widget_table` and `widget_rects` means: the maps and lists of egui's WidgetRects. There is nothing to run.
+ghost use mathlib.Core.Path.{_≡_};
+ghost use mathlib.Core.Bool.{Bool};
 ghost use Prim.Native.Nat.{ℕ, _<_};
 ghost use Rattle.refusal.specs.Limits.{widgets};
-ghost use Rattle.widget_maps.specs.Calls.{Calls, table, egui, Agrees};
-ghost use Rattle.widget_maps.specs.Record.{recordAfter, AnswersAs};
+ghost use Rattle.layers.specs.declared.LayerId.{LayerId};
+ghost use Rattle.widget_rect.specs.declared.WidgetRect.{WidgetRect};
+ghost use Rattle.widget_table.specs.Table.{entryOf, listOf, refusalOf};
+ghost use Rattle.widget_rects.specs.WidgetRects.{tableOf, insertedOf, orderOf, widgetOf, containsOf, layerOf, focusableOf, orderAnswer, widgetAnswer, containsAnswer, listAnswer, idsAnswer};
+ghost use Rattle.widget_maps.specs.Egui.{refusal};
+ghost use Rattle.widget_maps.specs.Calls.{Calls, table, egui};
+ghost use Rattle.widget_maps.specs.Record.{recordAfter};
 
 // After any list of calls, refused ones among them, the table says of every id and of every layer what egui's maps and lists do after the same calls,
 // and refuses what they do: for any number of cells, and any limit that a u64 can count.
 pub fn table_holds_the_maps()
-    ensures { λ _. ⌜ ((cells limit : ℕ) → limit < 18446744073709551615 → (calls : Calls) → Agrees limit (table cells limit calls) (egui limit calls)) ⌝ }
+    ensures { λ _. ⌜ ((cells limit : ℕ) → limit < 18446744073709551615 → (calls : Calls) →
+        ((id : ℕ) → entryOf (table cells limit calls) id ≡ egui limit calls .byId id)
+        × ((layer : LayerId) → listOf (table cells limit calls) layer ≡ egui limit calls .byLayer layer)
+        × ((layer : LayerId) (widget : WidgetRect) → refusalOf (table cells limit calls) layer widget ≡ refusal limit (egui limit calls) layer widget)) ⌝ }
 {}
 
-// After any list of calls, refused ones among them, every query of the record by value answers as egui's does, and the next insert is refused exactly where
-// document 01 says so.
+// After any list of calls, refused ones among them, the record by value answers every query, for every argument, as egui does from its maps and lists, and refuses
+// the next insert exactly where document 01 says so.
 pub fn record_answers_as_egui()
-    ensures { λ _. ⌜ ((calls : Calls) → AnswersAs (egui widgets calls) (recordAfter calls)) ⌝ }
+    ensures { λ _. ⌜ ((calls : Calls) →
+        ((id : ℕ) → orderAnswer (tableOf (recordAfter calls)) id ≡ orderOf id (egui widgets calls .byId id))
+        × ((id : ℕ) → widgetAnswer (tableOf (recordAfter calls)) id ≡ widgetOf id (egui widgets calls .byId id))
+        × ((id : ℕ) → containsAnswer (tableOf (recordAfter calls)) id ≡ containsOf id (egui widgets calls .byId id))
+        × ((layer : LayerId) → listAnswer (tableOf (recordAfter calls)) layer ≡ layerOf layer (egui widgets calls .byLayer layer))
+        × ((layer : LayerId) → idsAnswer (tableOf (recordAfter calls)) layer ≡ focusableOf layer (egui widgets calls .byLayer layer))
+        × ((layer : LayerId) (widget : WidgetRect) (move-to-top : Bool) → insertedOf (recordAfter calls) layer widget move-to-top .refusal ≡ refusal widgets (egui widgets calls) layer widget)) ⌝ }
 {}

@@ -109,12 +109,12 @@ impl WidgetRects {
         ensures { λ r. ⌜ r ≡ clearedRects self ⌝ }
     {
         let mut cells = self.cells;
-        tables::fill(&mut cells, 0);
+        let count = widget_table::clear(&mut cells);
         let ids = self.ids;
         let words = self.words;
         let rects = self.rects;
         WidgetRects {
-            count: 0,
+            count: count,
             cells: cells,
             ids: ids,
             words: words,

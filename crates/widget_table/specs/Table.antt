@@ -1,5 +1,5 @@
--- WidgetRects of widget_rect.rs (lines 97 to 245) as one table of rows, the exact value of each number of it. What it means in the Rust's terms is
--- crates/widget_rects/specs/Egui.antt; a reader needs only that. Definitions only.
+-- WidgetRects of widget_rect.rs (lines 99 to 245) as one table of rows, the exact value of each number of it. What it means in the Rust's terms is
+-- crates/widget_maps/specs/Egui.antt; a reader needs only that. Definitions only.
 use Prim.Native.Nat.{ℕ, zero, suc, _+_, _-_, _*_, _/_, min}
 use mathlib.Core.Bool.{Bool, true, false, cond, not}
 use mathlib.Core.List.{List, [], _∷_, _++_}
@@ -197,8 +197,11 @@ unfoldable pub insertOf : Table → LayerId → WidgetRect → Bool → Table
 insertOf t layer new move-to-top = unlessRefused (refusalOf t layer new) t (insertAt t new move-to-top (heldOf t) (foundIn t (new .id)))
 
 -- ---- `clear`: no row is held, and no cell leads to one
+abbrev pub clearedCells : List ℕ → List ℕ
+clearedCells cells = replicate (length cells) 0
+
 unfoldable pub clearOf : Table → Table
-clearOf t = record { count = 0; cells = replicate (length (t .cells)) 0; rows = t .rows }
+clearOf t = record { count = 0; cells = clearedCells (t .cells); rows = t .rows }
 
 -- a table with so many cells and room for so many rows, none held
 unfoldable pub newTable : ℕ → ℕ → Table

@@ -9,7 +9,7 @@ ghost use mathlib.Core.Path.{_≡_};
 ghost use Prim.Native.Nat.{_+_, _-_, _*_, _≤_, _<_};
 ghost use lib.ListN.{length, take};
 ghost use Rattle.tables.specs.Tables.{putAt, closed};
-ghost use Rattle.widget_table.specs.Table.{rowsIn, tableIn, homeOf, placeOf, roomOf, heldIn, fullRefusal, word, rectAt, layerAt, isIn, indexAt, recordAt, edgesOf, lookOf, sharedOf, oneMore, oneLess, nextIndex, pushOf, removeOf, putHalf, loweredAt, renumbered, joinedAt, updateOf, rowAfter, entryOf, listedIn, refusalOf, insertOf};
+ghost use Rattle.widget_table.specs.Table.{rowsIn, tableIn, homeOf, placeOf, roomOf, heldIn, fullRefusal, word, rectAt, layerAt, isIn, indexAt, recordAt, edgesOf, lookOf, sharedOf, oneMore, oneLess, nextIndex, pushOf, removeOf, putHalf, loweredAt, renumbered, joinedAt, updateOf, rowAfter, entryOf, listedIn, refusalOf, insertOf, clearedCells};
 use emath::Pos2;
 use emath::Rect;
 use layers::LayerId;
@@ -375,4 +375,12 @@ pub fn insert(
             }
         }
     }
+}
+
+// How many rows are then held: none. The rows keep their numbers, which no call reads any more.
+pub fn clear(cells: &mut [u64]) -> usize
+    ensures { λ r. ⌜ (r ≡ 0) × (now (cells .exit) ≡ clearedCells (now (cells .entry))) ⌝ }
+{
+    tables::fill(cells, 0);
+    0
 }

@@ -1,0 +1,142 @@
+//! Lists about the registry: any calls of it, pages of widgets on a few layers, and a registry at its limit, both listed whole at the end.
+use crate::draw::Draw;
+use crate::limits::{near, turn_hostile};
+use crate::tables::mixed;
+
+pub fn registry(d: &mut Draw) -> Vec<String> {
+    let calls = [
+        "insert",
+        "insert",
+        "insert",
+        "insert",
+        "insert",
+        "insert",
+        "order",
+        "widget",
+        "contains",
+        "get_layer",
+        "focusable_widgets_in_layer",
+        "state",
+    ];
+    let count = 5 + d.rng.below(60);
+    let mut lines = mixed(d, &calls, count);
+    if d.rng.percent(30) {
+        let place = d.rng.below(lines.len());
+        lines.insert(place, "clear".to_owned());
+    }
+    lines
+}
+
+/// The layers of a page, and the ids of its widgets.
+struct Page {
+    layers: Vec<String>,
+    ids: Vec<u64>,
+}
+
+impl Page {
+    fn of(d: &mut Draw, most: usize, ids: Vec<u64>) -> Self {
+        let layers = 1 + d.rng.below(most);
+        let layers = (0..layers).map(|i| format!("{} {}", d.order(), 7 + i));
+        Self {
+            layers: layers.collect(),
+            ids,
+        }
+    }
+
+    /// Most widgets stay on the layer of their place, some are inserted with another.
+    fn insert(&self, d: &mut Draw, place: usize, top: usize) -> String {
+        let layer = if d.rng.percent(90) {
+            &self.layers[place % self.layers.len()]
+        } else {
+            &self.layers[d.rng.below(self.layers.len())]
+        };
+        let top = u64::from(d.rng.percent(top));
+        format!("insert {} {top}", d.record_in(layer, self.ids[place]))
+    }
+
+    /// A new page in its order or any other.
+    fn fill(&self, d: &mut Draw) -> Vec<String> {
+        let mut places: Vec<usize> = (0..self.ids.len()).collect();
+        if d.rng.percent(50) {
+            d.rng.shuffle(&mut places);
+        }
+        places.iter().map(|i| self.insert(d, *i, 10)).collect()
+    }
+
+    fn lists(&self) -> impl Iterator<Item = String> {
+        let both = ["get_layer", "focusable_widgets_in_layer"];
+        let of = move |layer| both.map(|call| format!("{call} {layer}"));
+        self.layers.iter().flat_map(of)
+    }
+
+    fn places(&self) -> impl Iterator<Item = String> {
+        let both = ["order", "widget"];
+        let of = move |id| both.map(|call| format!("{call} {id}"));
+        self.ids.iter().flat_map(of)
+    }
+}
+
+/// Small ids, and some that differ by a multiple of 512.
+fn some_ids(d: &mut Draw, count: u64) -> Vec<u64> {
+    let far = |d: &mut Draw, i| if d.rng.percent(30) { 512 * i } else { 0 };
+    (0..count).map(|i| 1 + i % 40 + far(d, i)).collect()
+}
+
+/// A page whose widgets are moved, joined, inserted with another layer, cleared and inserted anew.
+pub fn page(d: &mut Draw) -> Vec<String> {
+    let count = 3 + d.rng.below(38) as u64;
+    let ids = some_ids(d, count);
+    let page = Page::of(d, 5, ids);
+    let mut lines = page.fill(d);
+    for _ in 0..1 + d.rng.below(4) {
+        match d.rng.below(6) {
+            0 => lines.push("clear".to_owned()),
+            1 => lines.append(&mut page.fill(d)),
+            _ => {
+                let moves = 1 + d.rng.below(30);
+                let insert = |_| {
+                    let place = d.rng.below(page.ids.len());
+                    page.insert(d, place, 60)
+                };
+                lines.extend((0..moves).map(insert));
+            }
+        }
+        lines.extend(page.lists());
+    }
+    lines.extend(page.places());
+    lines
+}
+
+/// A registry filled up to its limit and past it, cleared and filled again, with other refusals beside the limit's.
+pub fn full(d: &mut Draw) -> Vec<String> {
+    let ids = near(d, 256);
+    let page = Page::of(d, 8, ids);
+    let mut lines = page.fill(d);
+    if d.rng.percent(30) {
+        lines.push("clear".to_owned());
+        lines.append(&mut page.fill(d));
+    }
+    turn_hostile(d);
+    for _ in 0..14 {
+        lines.push(beside_full(d, &page));
+    }
+    lines.extend(page.lists());
+    lines.extend(page.places().filter(|_| d.rng.percent(5)));
+    lines
+}
+
+fn beside_full(d: &mut Draw, page: &Page) -> String {
+    let id = 250 + d.rng.below(12) as u64;
+    let layer = &page.layers[0];
+    match d.rng.below(10) {
+        0 => format!("order {id}"),
+        1 => format!("insert 1 7 {id} 9 1 8 {} {} 3 0 1 0", d.rect(), d.rect()),
+        2 => format!("insert {} 1", d.record_in(layer, page.ids[0])),
+        3 | 4 => format!("insert {} 0", d.record_of(id)),
+        5 => d.call("get_layer"),
+        _ => {
+            let top = d.rng.below(2);
+            format!("insert {} {top}", d.record_in(layer, id))
+        }
+    }
+}
