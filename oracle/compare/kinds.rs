@@ -21,6 +21,7 @@ pub const KINDS: &[(&str, usize, Kind)] = &[
     ("limits", 0, limits::limits),
     ("registry", 1, registry::registry),
     ("widget pages", 0, registry::page),
+    ("refused widgets", 0, registry::refused),
     ("areas", 1, tables::areas),
     ("hits", 0, tables::hits),
     ("popups", 1, tables::popups),

@@ -1,7 +1,7 @@
-//! Lists about the registry: any calls of it, pages of widgets on a few layers, and a registry at its limit, both listed whole at the end.
+//! Lists about the registry: any calls of it, inserts that are refused, pages of widgets on a few layers, and a registry at its limit, both listed whole at the end.
 use crate::draw::Draw;
 use crate::limits::{near, turn_hostile};
-use crate::tables::mixed;
+use crate::tables::{mixed, put_in};
 
 pub fn registry(d: &mut Draw) -> Vec<String> {
     let calls = [
@@ -20,11 +20,30 @@ pub fn registry(d: &mut Draw) -> Vec<String> {
     ];
     let count = 5 + d.rng.below(60);
     let mut lines = mixed(d, &calls, count);
-    if d.rng.percent(30) {
-        let place = d.rng.below(lines.len());
-        lines.insert(place, "clear".to_owned());
-    }
+    put_in(d, &mut lines, "clear", 30);
     lines
+}
+
+/// A number that some place of an insert refuses: an id, an Order, a sense, a corner off the grid, past its bound or not finite, any code.
+fn unfit(d: &mut Draw) -> String {
+    let corner = d.rng.pick(&[0.015625, 16384.03125, f32::NAN]).to_bits();
+    let number = d.rng.pick(&[0, 5, 8, corner.into(), u64::MAX]);
+    number.to_string()
+}
+
+/// Inserts that have one or two words changed, each anywhere.
+pub fn refused(d: &mut Draw) -> Vec<String> {
+    let count = 20 + d.rng.below(40);
+    let spoilt = |_| {
+        let line = d.call("insert");
+        let mut words: Vec<String> = line.split(' ').map(str::to_owned).collect();
+        for _ in 0..d.rng.pick(&[1, 1, 2]) {
+            let place = 1 + d.rng.below(words.len() - 1);
+            words[place] = unfit(d);
+        }
+        words.join(" ")
+    };
+    (0..count).map(spoilt).collect()
 }
 
 /// The layers of a page, and the ids of its widgets.

@@ -10,6 +10,14 @@ pub fn mixed(d: &mut Draw, calls: &[&'static str], count: usize) -> Vec<String> 
         .collect()
 }
 
+/// A line put in anywhere, in so many of a hundred lists.
+pub fn put_in(d: &mut Draw, lines: &mut Vec<String>, line: &str, share: usize) {
+    if d.rng.percent(share) {
+        let place = d.rng.below(lines.len());
+        lines.insert(place, line.to_owned());
+    }
+}
+
 pub fn popups(d: &mut Draw) -> Vec<String> {
     let calls = [
         "open_popup",
@@ -64,10 +72,7 @@ pub fn areas(d: &mut Draw) -> Vec<String> {
     ];
     let count = 5 + d.rng.below(60);
     let mut lines = mixed(d, &calls, count);
-    if d.rng.percent(10) {
-        let place = d.rng.below(lines.len());
-        lines.insert(place, "reset_areas".to_owned());
-    }
+    put_in(d, &mut lines, "reset_areas", 10);
     lines
 }
 

@@ -45,6 +45,8 @@ unsafe extern "C" {
         new: WidgetRect,
         move_to_top: bool,
     ) -> Inserted;
+
+    fn jaturemi_clear(cells: *mut u64, cells_len: usize) -> usize;
 }
 
 const WIDGETS: usize = 256;
@@ -59,8 +61,8 @@ struct Tables {
 
 impl Tables {
     fn clear(&mut self) {
-        self.cells.fill(0);
-        self.count = 0;
+        // SAFETY: the cells live through the call, which keeps within their length.
+        self.count = unsafe { jaturemi_clear(self.cells.as_mut_ptr(), self.cells.len()) };
     }
 
     fn insert(&mut self, w: &Widget, move_to_top: bool) {
@@ -113,10 +115,10 @@ fn main() {
                 count: 0,
             };
             page.iter().for_each(|w| tables.insert(w, false));
-            let start = |t: &mut Tables| {
-                if kind == Kind::New {
-                    t.clear();
-                }
+            let start = |t: &mut Tables, w: &Widget| match kind {
+                Kind::New => t.clear(),
+                Kind::AfterMove => t.insert(w, true),
+                _ => (),
             };
             let insert = |t: &mut Tables, w: &Widget| t.insert(w, kind == Kind::ToTop);
             let time = pages::nanoseconds(kind, &page, &mut tables, start, insert);

@@ -15,14 +15,17 @@ pub enum Kind {
     Known,
     /// The same, from all over the table in turn.
     Anywhere,
+    /// The same in order, after one of them has gone to the top.
+    AfterMove,
     /// The first of each list in turn goes to the top.
     ToTop,
 }
 
-pub const KINDS: [(&str, Kind); 4] = [
+pub const KINDS: [(&str, Kind); 5] = [
     ("new", Kind::New),
     ("known", Kind::Known),
     ("known, anywhere", Kind::Anywhere),
+    ("known, after a move", Kind::AfterMove),
     ("to the top", Kind::ToTop),
 ];
 
@@ -48,12 +51,12 @@ pub fn next(kind: Kind, at: usize, count: usize) -> usize {
     }
 }
 
-/// Nanoseconds an insert: the best of seven runs over the page, `start` being called before each turn over it.
+/// Nanoseconds an insert: the best of seven runs over the page, `start` being called before each turn over it with a widget of the page.
 pub fn nanoseconds<S>(
     kind: Kind,
     page: &[Widget],
     state: &mut S,
-    start: impl Fn(&mut S),
+    start: impl Fn(&mut S, &Widget),
     insert: impl Fn(&mut S, &Widget),
 ) -> f64 {
     let turns = 400_000 / page.len();
@@ -61,8 +64,8 @@ pub fn nanoseconds<S>(
     for _ in 0..7 {
         let begun = std::time::Instant::now();
         let mut at = 0;
-        for _ in 0..turns {
-            start(state);
+        for turn in 0..turns {
+            start(state, &page[turn % page.len()]);
             for _ in 0..page.len() {
                 insert(state, std::hint::black_box(&page[at]));
                 at = next(kind, at, page.len());

@@ -98,6 +98,7 @@ fn compile(b: &Break, out: &Path, worker: usize) -> Result<String, String> {
         "oracle/src".into(),
         "oracle/compare".into(),
         "oracle/search".into(),
+        "oracle/registry".into(),
     ] {
         run(Command::new("cp").arg("-r").arg(from).arg(&copy))?;
     }

@@ -109,25 +109,27 @@ fn row(folder: &Path, edit: &Edit, unreached: &str) -> Row {
     }
 }
 
-/// The line of the sample that `rt try` finds answered otherwise.
+/// The line of the sample that the compiled program answers otherwise. (The interpreter, which `rt try` runs first, stops before the sample ends.)
 fn first_difference(folder: &Path) -> Option<String> {
     let tried = Command::new("rt")
         .args(["try", "replay"])
         .current_dir(folder)
         .output();
     let tried = tried.unwrap_or_else(|e| stop(&e.to_string()));
-    if tried.status.success() {
+    let said = String::from_utf8_lossy(&tried.stdout) + String::from_utf8_lossy(&tried.stderr);
+    let compiled = said
+        .split("the native program at -O0")
+        .nth(1)
+        .unwrap_or_else(|| stop(&format!("rt try: {said}")));
+    if compiled.starts_with(" ended and wrote what is expected") {
         return None;
     }
-    let said = String::from_utf8_lossy(&tried.stdout) + String::from_utf8_lossy(&tried.stderr);
-    let Some(byte) = said
+    let byte = compiled
         .split("at byte ")
         .nth(1)
-        .and_then(|rest| rest.split(',').next())
-    else {
-        stop(&format!("rt try: {said}"));
-    };
-    let byte: usize = byte.parse().unwrap_or_else(|_| stop(&said));
+        .and_then(|rest| rest.split(',').next());
+    let byte = byte.and_then(|byte| byte.parse::<usize>().ok());
+    let byte = byte.unwrap_or_else(|| stop(&format!("rt try: {said}")));
     let answers = read(&folder.join("crates/replay/stdout"));
     Some((1 + answers[..byte].matches('\n').count()).to_string())
 }

@@ -29,10 +29,10 @@ pub fn times() {
             let page = pages::page(count, layers);
             let mut widgets = WidgetRects::default();
             page.iter().for_each(|w| insert(&mut widgets, w, false));
-            let start = |r: &mut WidgetRects| {
-                if kind == Kind::New {
-                    r.clear();
-                }
+            let start = |r: &mut WidgetRects, w: &Widget| match kind {
+                Kind::New => r.clear(),
+                Kind::AfterMove => insert(r, w, true),
+                _ => (),
             };
             let turn = |r: &mut WidgetRects, w: &Widget| insert(r, w, kind == Kind::ToTop);
             let time = pages::nanoseconds(kind, &page, &mut widgets, start, turn);

@@ -88,7 +88,7 @@ impl std::hash::Hasher for IdHasher {
     }
 }
 
-/// The registry's map: its text names the standard map's own entries. It is never walked.
+/// The registry's map: its text names the standard map's own entries. egui never walks it.
 pub type HashedIdMap<V> = HashMap<Id, V, std::hash::BuildHasherDefault<IdHasher>>;
 
 pub mod ahash {

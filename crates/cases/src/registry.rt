@@ -3,6 +3,7 @@ use emath::Pos2;
 use emath::Rect;
 use layers::LayerId;
 use libc::STDOUT_FILENO;
+use refusal::WIDGETS;
 use widget_rect::WidgetRect;
 use widget_rects::Inserted;
 use widget_rects::WidgetRects;
@@ -39,7 +40,7 @@ fn filled(empty: WidgetRects) -> Inserted {
         refusal: 0,
         widgets: empty,
     };
-    for id in 0..256u64 {
+    for id in 0..WIDGETS as u64 {
         let widgets = now.widgets;
         now = insert(widgets, id + 1, false);
     }
@@ -66,9 +67,9 @@ fn tell(text: &[u8], r: Inserted) {
 }
 
 // The last of the first n.
-fn last(ids: [u64; 256], n: usize) -> u64 {
+fn last(ids: [u64; WIDGETS], n: usize) -> u64 {
     if 0 < n {
-        if n <= 256 {
+        if n <= WIDGETS {
             return ids[n - 1];
         }
     }

@@ -1,4 +1,4 @@
--- WidgetRects of widget_rect.rs in its own terms: `by_layer` has a list for each layer, `by_id` an index and a record for ids (lines 97 to 110), in the order of
+-- WidgetRects of widget_rect.rs in its own terms: `by_layer` has a list for each layer, `by_id` an index and a record for ids (lines 104 to 116), in the order of
 -- the Rust's text. Definitions only.
 use Prim.Native.Nat.{ℕ, zero, suc}
 use mathlib.Core.Bool.{Bool, cond}
@@ -30,7 +30,7 @@ withEntry byId id entry x = cond (eqb id x) entry (byId x)
 abbrev pub removed : ℕ → List WidgetRect → List WidgetRect
 removed idx list = take idx list ++ drop (suc idx) list
 
--- ---- the loop at the end of `insert` (lines 229 to 237): each widget of a list from a place on takes its place as its index
+-- ---- the loop at the end of `insert` (lines 236 to 244): each widget of a list from a place on takes its place as its index
 abbrev pub withIdx : ℕ → Entry → Entry
 withIdx i Vacant = Vacant
 withIdx i (Occupied idx w) = Occupied i w
@@ -39,7 +39,7 @@ unfoldable pub shifted : ℕ → List WidgetRect → (ℕ → Entry) → ℕ →
 shifted i [] byId = byId
 shifted i (w ∷ rest) byId = shifted (suc i) rest (withEntry byId (w .id) (withIdx i (byId (w .id))))
 
--- ---- `insert` (lines 182 to 238); the infos and the debug assertion are left out
+-- ---- `insert` (lines 186 to 245); the infos and the debug assertion are left out
 module _ (m : WidgetRects) (layer : LayerId) (widget : WidgetRect) where
   -- a new widget
   unfoldable pub newWidget : WidgetRects
@@ -76,6 +76,6 @@ fullRefusal limit len (Occupied idx w) = none
 unfoldable pub refusal : ℕ → WidgetRects → LayerId → WidgetRect → ℕ
 refusal limit m layer widget = lowest (insertRefusal widget layer) (fullRefusal limit (m .len) (m .byId (widget .id)))
 
--- ---- `clear` (lines 166 to 180), and a registry that is new
+-- ---- `clear` (lines 168 to 183), and a registry that is new
 unfoldable pub cleared : WidgetRects
 cleared = record { byLayer = λ layer. []; byId = λ id. Vacant; len = 0 }

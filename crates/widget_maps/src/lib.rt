@@ -12,7 +12,7 @@ ghost use Rattle.widget_maps.specs.Calls.{Calls, table, egui};
 ghost use Rattle.widget_maps.specs.Record.{recordAfter};
 
 // After any list of calls, refused ones among them, the table says of every id and of every layer what egui's maps and lists do after the same calls,
-// and refuses what they do: for any number of cells, and any limit that a u64 can count.
+// and refuses what document 01 does over these: for any number of cells, and any limit below 2^64 - 1.
 pub fn table_holds_the_maps()
     ensures { λ _. ⌜ ((cells limit : ℕ) → limit < 18446744073709551615 → (calls : Calls) →
         ((id : ℕ) → entryOf (table cells limit calls) id ≡ egui limit calls .byId id)

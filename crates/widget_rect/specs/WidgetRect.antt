@@ -1,4 +1,4 @@
--- WidgetRect of widget_rect.rs (lines 7 to 57), what `insert` does to the record of a known widget (lines 205 to 210), `focusable_widgets_in_layer`
+-- WidgetRect of widget_rect.rs (lines 8 to 57), what `insert` does to the record of a known widget (lines 212 to 216), `focusable_widgets_in_layer`
 -- (line 163), and document 01's refusals of a record. Definitions only.
 use Prim.Native.Nat.{ℕ, _/_, _%_}
 use mathlib.Core.Bool.{Bool, cond, _&&_, _||_}

@@ -1,4 +1,4 @@
--- WidgetRects of widget_rect.rs (lines 97 to 245) as a record by value: its table is that of crate `widget_table`, with 256 rows, and 512 cells so that few ids share
+-- WidgetRects of widget_rect.rs (lines 104 to 245) as a record by value: its table is that of crate `widget_table`, with 256 rows, and 512 cells so that few ids share
 -- one. Definitions only.
 use Prim.Native.Nat.{ℕ, _*_}
 use mathlib.Core.Bool.{Bool, true, false, cond}
@@ -43,7 +43,7 @@ insertedOf w layer new move-to-top = record { refusal = refusalOf (tableOf w) la
 unfoldable pub clearedRects : WidgetRects → WidgetRects
 clearedRects w = rectsOf (clearOf (tableOf w))
 
--- ---- `order`, `get`, `contains` (lines 133 to 147), from what by_id holds; id 0 is refused
+-- ---- `order`, `get`, `contains` (lines 137 to 149), from what by_id holds; id 0 is refused
 abbrev pub orderIn : Entry → OrderAnswer
 orderIn Vacant = NoOrder
 orderIn (Occupied idx w) = OrderIs (w .«layer_id») idx
@@ -74,7 +74,7 @@ widgetAnswer t id = widgetOf id (entryOf t id)
 unfoldable pub containsAnswer : Table → ℕ → ContainsAnswer
 containsAnswer t id = containsOf id (entryOf t id)
 
--- ---- `get_layer`, `focusable_widgets_in_layer` (lines 150 to 165), from the layer's list
+-- ---- `get_layer`, `focusable_widgets_in_layer` (lines 153 to 165), from the layer's list
 unfoldable pub focusableIds : List WidgetRect → List ℕ
 focusableIds [] = []
 focusableIds (w ∷ list) = cond (isFocusable w) (w .id ∷ focusableIds list) (focusableIds list)

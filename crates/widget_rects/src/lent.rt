@@ -107,7 +107,8 @@ fn put_focusable(out: &mut [u64], n: usize, w: WidgetRect) -> usize
     n
 }
 
-// The ids of the focusable widgets of a layer, in the order of its list, on the first places of `out`, as far as they fit; how many they are.
+// The ids of the focusable widgets of a layer, in the order of its list, on the first places of `out`, as far as they fit; how many they are. It refuses no
+// layer: the caller asks for that.
 pub fn focusable_widgets(
     ids: &[u64],
     words: &[u64],

@@ -1,4 +1,4 @@
--- WidgetRects of widget_rect.rs (lines 99 to 245) as one table of rows, the exact value of each number of it. What it means in the Rust's terms is
+-- WidgetRects of widget_rect.rs (lines 104 to 245) as one table of rows, the exact value of each number of it. What it means in the Rust's terms is
 -- crates/widget_maps/specs/Egui.antt; a reader needs only that. Definitions only.
 use Prim.Native.Nat.{ℕ, zero, suc, _+_, _-_, _*_, _/_, min}
 use mathlib.Core.Bool.{Bool, true, false, cond, not}
