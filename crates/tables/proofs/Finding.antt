@@ -1,16 +1,18 @@
 -- Laws of the place where a number stands. Assumes nothing.
-use mathlib.Core.Path.{_≡_, refl, _∙_}
-use mathlib.Core.Bool.{Bool, true, false, cond, _&&_}
+use mathlib.Core.Path.{_≡_, refl, sym, _∙_}
+use mathlib.Core.Bool.{Bool, true, false, cond, _&&_, and-false, true≢false}
 use mathlib.Core.List.{List, [], _∷_}
-use Prim.Native.Nat.{ℕ, zero, suc, _+_, _<_, _≤_}
-use native.Mathlib.Nat.{not-suc-le-zero, le-of-suc-le-suc}
+use Prim.Native.Nat.{ℕ, zero, suc, _+_, _-_, min, _<_, _≤_}
+use native.Mathlib.Decide.{decLt, ℕ-discrete}
+use native.Mathlib.Nat.{not-suc-le-zero, le-of-suc-le-suc, zero-min}
 use native.Mathlib.Numerals.{add-one}
 use native.Mathlib.Omega.{arith}
 use lib.Dec.{ltb, eqb}
-use lib.ListN.{length, getD, drop, drop-of-length-le}
-use lib.Seq.{drop-cons}
-use borrow.Author.Tests.{ltb-true, eqb-true, eq-eqb, ne-eqb}
-use Rattle.tables.specs.Tables.{firstFrom, firstAt, standsAt}
+use lib.ListN.{length, getD, drop, drop-of-length-le, length-drop}
+use lib.Seq.{drop-cons, getD-drop}
+use borrow.Author.Tests.{ltb-true, eqb-true, eq-eqb, ne-eqb, lt-ltb, le-ltb}
+use Rattle.tables.specs.Tables.{firstFrom, lastBelow, orElse, nearest}
+use Rattle.tables.specs.declared.Found.{Found}
 use Rattle.tables.specs.declared.Found.the-variants.{At, Nothing}
 
 -- ---- the search from i on, as its loop makes it
@@ -39,12 +41,6 @@ from-at i (y ∷ ys) x k e = go (eqb y x) refl e (from-at (suc i) ys x k)
     go true t e rest = let p : i ≡ k = cc in (0, omega arith, omega arith, eqb-true y x t)
     go false t e rest = let (n, p, h, q) = rest e in (suc n, omega arith, omega arith, q)
 
-pub first-at : (xs : List ℕ) (x k : ℕ) → firstAt xs x ≡ At k → (k < length xs) × (getD xs k 0 ≡ x)
-first-at xs x k e =
-    let (n, p, h, q) = from-at 0 xs x k e in
-    let r : k ≡ n = omega arith in
-    rw r (h, q)
-
 -- ---- where nothing is found, it stands nowhere
 from-none : (j : ℕ) (xs : List ℕ) (x i : ℕ) → firstFrom j xs x ≡ Nothing → i < length xs → (getD xs i 0 ≡ x → ⊥)
 unfolding firstFrom
@@ -56,14 +52,92 @@ from-none j (y ∷ ys) x (suc i) e h q = from-none (suc j) ys x i (go (eqb y x) 
     go true e = cc
     go false e = e
 
-pub first-none : (xs : List ℕ) (x i : ℕ) → firstAt xs x ≡ Nothing → i < length xs → (getD xs i 0 ≡ x → ⊥)
-first-none xs x i = from-none 0 xs x i
+-- ---- the search below n, as its loop makes it
+module _ (xs : List ℕ) (x : ℕ) where
+  pub below-none : (n : ℕ) → (0 < n → ⊥) → lastBelow xs n x ≡ Nothing
+  unfolding lastBelow
+  below-none zero h = refl
+  below-none (suc n) h = absurd (h (omega arith))
 
--- ---- what a test says to stand there does
-pub stands-at : (xs : List ℕ) (k x : ℕ) → standsAt xs k x ≡ true → (k < length xs) × (getD xs k 0 ≡ x)
-unfolding standsAt
-stands-at xs k x e = go (ltb k (length xs)) (eqb (getD xs k 0) x) refl refl e
-  where
-    go : (s t : Bool) → ltb k (length xs) ≡ s → eqb (getD xs k 0) x ≡ t → s && t ≡ true → (k < length xs) × (getD xs k 0 ≡ x)
-    go true t p q e = (ltb-true k (length xs) p, eqb-true (getD xs k 0) x (q ∙ e))
-    go false t p q e = let z : _≡_ {A = ℕ} 0 1 = cc in absurd (omega arith)
+  pub below-here : (n : ℕ) → 0 < n → n ≤ length xs → getD xs (n - 1) 0 ≡ x → lastBelow xs n x ≡ At (n - 1)
+  unfolding lastBelow
+  below-here zero p h e = absurd (omega arith)
+  below-here (suc n) p h e =
+      let q : suc n - 1 ≡ n = omega arith in
+      rw (q, lt-ltb n (length xs) h, eq-eqb (getD xs n 0) x (rw q at e))
+
+  pub below-more : (n : ℕ) → 0 < n → (getD xs (n - 1) 0 ≡ x → ⊥) → lastBelow xs n x ≡ lastBelow xs (n - 1) x
+  unfolding lastBelow
+  below-more zero p e = absurd (omega arith)
+  below-more (suc n) p e =
+      let q : suc n - 1 ≡ n = omega arith in
+      rw (q, ne-eqb (getD xs n 0) x (rw q at e), and-false)
+
+  -- nothing stands past the end
+  pub below-end : (n : ℕ) → lastBelow xs n x ≡ lastBelow xs (min n (length xs)) x
+  unfolding lastBelow
+  below-end zero = rw zero-min
+  below-end (suc n) = go (decLt n (length xs)) (below-end n)
+    where
+      go : Dec (n < length xs) → lastBelow xs n x ≡ lastBelow xs (min n (length xs)) x → lastBelow xs (suc n) x ≡ lastBelow xs (min (suc n) (length xs)) x
+      go (yes h) rest = let e : min (suc n) (length xs) ≡ suc n = omega arith in rw e
+      go (no h) rest =
+          let e : min (suc n) (length xs) ≡ min n (length xs) = omega arith in
+          rw (e, le-ltb n (length xs) (omega arith)) rest
+
+-- ---- what is found below n stands there, and else it stands nowhere below n
+module _ (xs : List ℕ) (x : ℕ) where
+  last-at : (n k : ℕ) → lastBelow xs n x ≡ At k → (k < length xs) × (getD xs k 0 ≡ x)
+  unfolding lastBelow
+  last-at zero k e = let z : _≡_ {A = ℕ} 0 1 = cc in absurd (omega arith)
+  last-at (suc n) k e = go (ltb n (length xs)) (eqb (getD xs n 0) x) refl refl e (last-at n k)
+    where
+      go : (s t : Bool) → ltb n (length xs) ≡ s → eqb (getD xs n 0) x ≡ t → cond (s && t) (At n) (lastBelow xs n x) ≡ At k
+          → (lastBelow xs n x ≡ At k → (k < length xs) × (getD xs k 0 ≡ x)) → (k < length xs) × (getD xs k 0 ≡ x)
+      go true true p q e rest = let r : n ≡ k = cc in rw (← r) (ltb-true n (length xs) p, eqb-true (getD xs n 0) x q)
+      go true false p q e rest = rest e
+      go false t p q e rest = rest e
+
+  last-none : (n i : ℕ) → lastBelow xs n x ≡ Nothing → i < n → i < length xs → (getD xs i 0 ≡ x → ⊥)
+  unfolding lastBelow
+  last-none zero i e l h q = not-suc-le-zero l
+  last-none (suc n) i e l h q = go (ltb n (length xs)) (eqb (getD xs n 0) x) refl refl e (ℕ-discrete i n) (last-none n i)
+    where
+      go : (s t : Bool) → ltb n (length xs) ≡ s → eqb (getD xs n 0) x ≡ t → cond (s && t) (At n) (lastBelow xs n x) ≡ Nothing → Dec (i ≡ n)
+          → (lastBelow xs n x ≡ Nothing → i < n → i < length xs → (getD xs i 0 ≡ x → ⊥)) → ⊥
+      go true true p r e d rest = let z : _≡_ {A = ℕ} 0 1 = cc in omega arith
+      go true false p r e (yes d) rest = let z : _≡_ {A = Bool} true false = sym (eq-eqb (getD xs n 0) x (rw d at q)) ∙ r in true≢false z
+      go true false p r e (no d) rest = rest e (omega arith) h q
+      go false t p r e (yes d) rest = let z : _≡_ {A = Bool} true false = sym (lt-ltb n (length xs) (rw d at h)) ∙ p in true≢false z
+      go false t p r e (no d) rest = rest e (omega arith) h q
+
+-- ---- the two ways of `find`; what it finds stands there, and else it stands nowhere
+module _ (xs : List ℕ) (n x : ℕ) where
+  pub near-below : (f : Found) (k : ℕ) → f ≡ lastBelow xs n x → f ≡ At k → At k ≡ nearest xs n x
+  unfolding nearest
+  near-below f k p e = rw (← p, e)
+
+  pub near-from : (f g : Found) → f ≡ lastBelow xs n x → f ≡ Nothing → g ≡ firstFrom n (drop n xs) x → g ≡ nearest xs n x
+  unfolding nearest
+  near-from f g p e q = rw (← p, e, q)
+
+  pub nearest-at : (k : ℕ) → nearest xs n x ≡ At k → (k < length xs) × (getD xs k 0 ≡ x)
+  unfolding nearest
+  nearest-at k e = go (lastBelow xs n x) refl e
+    where
+      go : (f : Found) → lastBelow xs n x ≡ f → orElse f (firstFrom n (drop n xs) x) ≡ At k → (k < length xs) × (getD xs k 0 ≡ x)
+      go (At j) p e = last-at xs x n k (p ∙ e)
+      go Nothing p e =
+          let (m, q, h, r) = from-at n (drop n xs) x k e in
+          rw q (omega (arith, length-drop n xs), rw getD-drop at r)
+
+  pub nearest-none : (i : ℕ) → nearest xs n x ≡ Nothing → i < length xs → (getD xs i 0 ≡ x → ⊥)
+  unfolding nearest
+  nearest-none i e h q = go (lastBelow xs n x) refl e (decLt i n)
+    where
+      go : (f : Found) → lastBelow xs n x ≡ f → orElse f (firstFrom n (drop n xs) x) ≡ Nothing → Dec (i < n) → ⊥
+      go (At j) p e d = let z : _≡_ {A = ℕ} 0 1 = cc in omega arith
+      go Nothing p e (yes d) = last-none xs x n i p d h q
+      go Nothing p e (no d) =
+          let a : n + (i - n) ≡ i = omega arith in
+          from-none n (drop n xs) x (i - n) e (omega (arith, length-drop n xs)) (getD-drop n xs (i - n) 0 ∙ rw a q)

@@ -12,12 +12,18 @@ unfoldable pub firstFrom : ℕ → List ℕ → ℕ → Found
 firstFrom i [] x = Nothing
 firstFrom i (y ∷ ys) x = cond (eqb y x) (At i) (firstFrom (suc i) ys x)
 
-abbrev pub firstAt : List ℕ → ℕ → Found
-firstAt xs x = firstFrom 0 xs x
+-- ---- the last place of a number below n
+unfoldable pub lastBelow : List ℕ → ℕ → ℕ → Found
+lastBelow xs zero x = Nothing
+lastBelow xs (suc n) x = cond (ltb n (length xs) && eqb (getD xs n 0) x) (At n) (lastBelow xs n x)
 
--- ---- whether a number stands at a place
-unfoldable pub standsAt : List ℕ → ℕ → ℕ → Bool
-standsAt xs at x = ltb at (length xs) && eqb (getD xs at 0) x
+-- ---- the last place of a number below n, or else the first from n on
+abbrev pub orElse : Found → Found → Found
+orElse (At k) f = At k
+orElse Nothing f = f
+
+unfoldable pub nearest : List ℕ → ℕ → ℕ → Found
+nearest xs n x = orElse (lastBelow xs n x) (firstFrom n (drop n xs) x)
 
 module _ {A : Type 0} where
   -- ---- a row put at a place, where all of it fits

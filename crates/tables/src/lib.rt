@@ -2,8 +2,8 @@
 ghost use mathlib.Core.Path.{_≡_};
 ghost use Prim.Native.Nat.{_+_, min};
 ghost use lib.Dec.{leb};
-ghost use lib.ListN.{length, getD, set, replicate};
-ghost use Rattle.tables.specs.Tables.{firstAt, standsAt, putAt, closed};
+ghost use lib.ListN.{length, getD, drop, set, replicate};
+ghost use Rattle.tables.specs.Tables.{firstFrom, lastBelow, nearest, putAt, closed};
 
 pub enum Found {
     At(usize),
@@ -16,11 +16,25 @@ pub fn fewer(a: usize, b: usize) -> usize
     if a < b { a } else { b }
 }
 
-// The first place of x.
-pub fn find(xs: &[u64], x: u64) -> Found
-    ensures { λ r. ⌜ r ≡ firstAt (now (xs .entry)) x ⌝ }
+// The last place of x below n.
+fn find_below(xs: &[u64], n: usize, x: u64) -> Found
+    ensures { λ r. ⌜ r ≡ lastBelow (now (xs .entry)) n x ⌝ }
 {
-    let mut i: usize = 0;
+    let mut i = fewer(n, xs.len());
+    while 0 < i {
+        i -= 1;
+        if xs[i] == x {
+            return Found::At(i);
+        }
+    }
+    Found::Nothing
+}
+
+// The first place of x from n on.
+fn find_from(xs: &[u64], n: usize, x: u64) -> Found
+    ensures { λ r. ⌜ r ≡ firstFrom n (drop n (now (xs .entry))) x ⌝ }
+{
+    let mut i = n;
     while i < xs.len() {
         if xs[i] == x {
             return Found::At(i);
@@ -28,6 +42,16 @@ pub fn find(xs: &[u64], x: u64) -> Found
         i += 1;
     }
     Found::Nothing
+}
+
+// The last place of x below n, or else the first from n on: of a number that stands once, its place, soon found where n is little above it.
+pub fn find(xs: &[u64], n: usize, x: u64) -> Found
+    ensures { λ r. ⌜ r ≡ nearest (now (xs .entry)) n x ⌝ }
+{
+    match find_below(xs, n, x) {
+        Found::At(i) => Found::At(i),
+        Found::Nothing => find_from(xs, n, x),
+    }
 }
 
 // What stands at a place, or d past the end.
@@ -38,16 +62,6 @@ pub fn at_or(xs: &[u64], at: usize, d: u64) -> u64
         return xs[at];
     }
     d
-}
-
-// Whether x stands at a place.
-pub fn stands(xs: &[u64], at: usize, x: u64) -> bool
-    ensures { λ r. ⌜ r ≡ standsAt (now (xs .entry)) at x ⌝ }
-{
-    if at < xs.len() {
-        return xs[at] == x;
-    }
-    false
 }
 
 // Puts a number at a place; past the end it changes nothing.

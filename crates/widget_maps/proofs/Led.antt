@@ -3,15 +3,13 @@ use mathlib.Core.Path.{_≡_, refl, sym}
 use Prim.Native.Nat.{ℕ, zero, suc, _+_, _<_, _≤_}
 use native.Mathlib.Decide.{decLt, ℕ-discrete}
 use native.Mathlib.Omega.{arith}
-use mathlib.Core.Bool.{Bool, true, false, cond}
 use mathlib.Core.List.{List, [], _∷_}
 use lib.ListN.{length, getD, take, drop, set, length-set, List·getD-eq-default}
 use lib.Seq.{length-take-le, getD-take, getD-set-same, getD-set-other}
 use borrow.Author.Tests.{ne-eqb}
 use Rattle.tables.specs.declared.Found.{Found}
 use Rattle.tables.specs.declared.Found.the-variants.{At, Nothing}
-use Rattle.tables.specs.Tables.{firstAt, standsAt}
-use Rattle.tables.proofs.Finding.{first-at, first-none, stands-at}
+use Rattle.tables.proofs.Finding.{nearest-at, nearest-none}
 use Rattle.widget_table.specs.declared.Entry.{Entry}
 use Rattle.widget_table.specs.declared.Entry.the-variants.{Vacant}
 use Rattle.widget_table.specs.Table.{Rows, homeOf, placeBy, placeOf, recordAt, entryAt}
@@ -28,19 +26,11 @@ module _ (held : List ℕ) (id : ℕ) where
   by-at : (j k : ℕ) → placeBy j held id ≡ At k → (k < length held) × (getD held k 0 ≡ id)
   unfolding placeBy
   by-at zero k e = let z : _≡_ {A = ℕ} 0 1 = cc in absurd (omega arith)
-  by-at (suc j) k e = go (standsAt held j id) refl e
-    where
-      go : (t : Bool) → standsAt held j id ≡ t → cond t (At j) (firstAt held id) ≡ At k → (k < length held) × (getD held k 0 ≡ id)
-      go true t e = let p : k ≡ j = cc in rw p (stands-at held j id t)
-      go false t e = first-at held id k e
+  by-at (suc j) k e = nearest-at held (suc j) id k e
 
-  by-none : (j : ℕ) → placeBy (suc j) held id ≡ Nothing → firstAt held id ≡ Nothing
+  by-none : (j i : ℕ) → placeBy (suc j) held id ≡ Nothing → i < length held → (getD held i 0 ≡ id → ⊥)
   unfolding placeBy
-  by-none j = go (standsAt held j id)
-    where
-      go : (t : Bool) → cond t (At j) (firstAt held id) ≡ Nothing → firstAt held id ≡ Nothing
-      go true e = cc
-      go false e = e
+  by-none j i e = nearest-none held (suc j) id i e
 
 none-held : (rows : List Row) (id : ℕ) (d : Row) → ((i : ℕ) → i < length rows → getD rows i d .held .id ≡ id → ⊥) → entryRows rows id ≡ Vacant
 unfolding entryRows
@@ -62,17 +52,17 @@ module _ (t : Rows) (n : ℕ) (fits : n ≤ length (t .ids)) (cells : List ℕ) 
       rows : List Row
       rows = rowsTo t n
 
-      nowhere : firstAt (take n (t .ids)) id ≡ Nothing → (i : ℕ) → i < length rows → getD rows i (rowOf t 0) .held .id ≡ id → ⊥
-      nowhere e i l p =
+      nowhere : (j : ℕ) → placeBy (suc j) (take n (t .ids)) id ≡ Nothing → (i : ℕ) → i < length rows → getD rows i (rowOf t 0) .held .id ≡ id → ⊥
+      nowhere j e i l p =
           let h : i < n = omega (arith, rows-length t n) in
-          first-none (take n (t .ids)) id i e (omega (arith, length-take-le n (t .ids) fits)) (rw getD-take (rw rows-get at p))
+          by-none (take n (t .ids)) id j i e (omega (arith, length-take-le n (t .ids) fits)) (rw getD-take (rw rows-get at p))
 
       go : (f : Found) → placeOf cells (take n (t .ids)) id ≡ f → (j : ℕ) → getD cells (homeOf cells id) 1 ≡ j → entryAt t f ≡ entryRows rows id
       go (At k) e j p =
           let (l, q) = found-at k e in
           rw (← q) (sym (known-entry rows (take k rows) (rowOf t k) (drop (suc k) rows) s (rows-split t n k l)))
       go Nothing e zero p = sym (led id p)
-      go Nothing e (suc j) p = sym (none-held rows id (rowOf t 0) (nowhere (by-none (take n (t .ids)) id j (rw p at e))))
+      go Nothing e (suc j) p = sym (none-held rows id (rowOf t 0) (nowhere j (rw p at e)))
 
 -- ---- a cell that leads to a row, after which the id of its home is held
 module _ (cells : List ℕ) (id k : ℕ) (byId byId' : ℕ → Entry) (new : (x : ℕ) → (id ≡ x → ⊥) → byId x ≡ Vacant → byId' x ≡ Vacant) where

@@ -1,6 +1,5 @@
 -- Laws of the place of an id. Assumes nothing.
 use mathlib.Core.Path.{_≡_, refl, sym, _∙_}
-use mathlib.Core.Bool.{Bool, true, false, cond}
 use mathlib.Core.List.{List}
 use Prim.Native.Nat.{ℕ, zero, suc, _+_, _-_, _*_, _/_, min, _<_, _≤_}
 use native.Mathlib.Omega.{arith}
@@ -10,8 +9,8 @@ use lib.Seq.{length-take-le}
 use borrow.Author.Tests.{lt-ltb, le-ltb}
 use Rattle.tables.specs.declared.Found.{Found}
 use Rattle.tables.specs.declared.Found.the-variants.{At, Nothing}
-use Rattle.tables.specs.Tables.{firstAt, standsAt}
-use Rattle.tables.proofs.Finding.{first-at, stands-at}
+use Rattle.tables.specs.Tables.{nearest}
+use Rattle.tables.proofs.Finding.{nearest-at}
 use Rattle.widget_rect.specs.declared.WidgetRect.{WidgetRect}
 use Rattle.widget_table.specs.declared.Entry.the-variants.{Vacant, Occupied}
 use Rattle.widget_table.specs.Table.{Rows, roomOf, heldIn, foundIn, indexAt, recordAt, entryOf, homeOf, placeBy, placeOf, fullRefusal}
@@ -19,26 +18,20 @@ use Rattle.widget_table.specs.Table.{Rows, roomOf, heldIn, foundIn, inde
 pub home-of-none : (cells : List ℕ) (id : ℕ) → length cells ≡ 0 → 0 ≡ homeOf cells id
 home-of-none cells id e = rw e (sym (and-zero-l id))
 
--- ---- the three ways of `place`
-by-cell : (held : List ℕ) (id cell : ℕ) (b : Bool) → (cell ≡ 0 → ⊥) → b ≡ standsAt held (cell - 1) id → placeBy cell held id ≡ cond b (At (cell - 1)) (firstAt held id)
+-- ---- the two ways of `place`
+by-cell : (held : List ℕ) (id cell : ℕ) → (cell ≡ 0 → ⊥) → placeBy cell held id ≡ nearest held cell id
 unfolding placeBy
-by-cell held id zero b n e = absurd (n refl)
-by-cell held id (suc k) b n e =
-    let p : suc k - 1 ≡ k = omega arith in
-    rw (p, ← rw p at e)
+by-cell held id zero n = absurd (n refl)
+by-cell held id (suc k) n = refl
 
 module _ (cells held : List ℕ) (id h cell : ℕ) (home : h ≡ homeOf cells id) (read : cell ≡ getD cells h 1) where
   pub place-none : cell ≡ 0 → Nothing ≡ placeOf cells held id
   unfolding placeOf placeBy
   place-none z = rw (← home, ← read, z)
 
-  pub place-here : (b : Bool) → (cell ≡ 0 → ⊥) → b ≡ standsAt held (cell - 1) id → b ≡ true → At (cell - 1) ≡ placeOf cells held id
+  pub place-near : (f : Found) → (cell ≡ 0 → ⊥) → f ≡ nearest held cell id → f ≡ placeOf cells held id
   unfolding placeOf
-  place-here b n e t = rw (← home, ← read, by-cell held id cell b n e, t)
-
-  pub place-scan : (b : Bool) (f : Found) → (cell ≡ 0 → ⊥) → b ≡ standsAt held (cell - 1) id → b ≡ false → f ≡ firstAt held id → f ≡ placeOf cells held id
-  unfolding placeOf
-  place-scan b f n e t g = rw (g, ← home, ← read, by-cell held id cell b n e, t)
+  place-near f n g = rw (g, ← home, ← read, by-cell held id cell n)
 
 -- ---- refusal 6
 pub has-room : (f : Found) (n room : ℕ) → f ≡ Nothing → n < room → 0 ≡ fullRefusal f n room
@@ -57,14 +50,10 @@ held-fits t count room n r e =
     (i, omega arith, omega arith)
 
 -- ---- a row that is found is held
-chosen-below : (held : List ℕ) (id j k : ℕ) (b : Bool) → b ≡ standsAt held j id → cond b (At j) (firstAt held id) ≡ At k → k < length held
-chosen-below held id j k true s e = let p : j ≡ k = cc in rw (← p) (stands-at held j id (sym s) .0)
-chosen-below held id j k false s e = first-at held id k e .0
-
 below : (held : List ℕ) (id k cell : ℕ) → placeBy cell held id ≡ At k → k < length held
 unfolding placeBy
 below held id k zero e = let z : _≡_ {A = ℕ} 0 1 = cc in absurd (omega arith)
-below held id k (suc j) e = chosen-below held id j k (standsAt held j id) refl e
+below held id k (suc j) e = nearest-at held (suc j) id k e .0
 
 pub place-below : (cells held : List ℕ) (id k : ℕ) → placeOf cells held id ≡ At k → k < length held
 unfolding placeOf

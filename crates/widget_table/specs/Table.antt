@@ -13,7 +13,7 @@ use Rattle.layers.specs.declared.LayerId.{LayerId}
 use Rattle.layers.specs.Layers.{isLayer}
 use Rattle.tables.specs.declared.Found.{Found}
 use Rattle.tables.specs.declared.Found.the-variants.{At, Nothing}
-use Rattle.tables.specs.Tables.{firstAt, standsAt, putAt, closed, onPart}
+use Rattle.tables.specs.Tables.{nearest, putAt, closed, onPart}
 use Rattle.widget_rect.specs.declared.WidgetRect.{WidgetRect}
 use Rattle.widget_rect.specs.WidgetRect.{joinedOf, insertRefusal}
 use Rattle.widget_table.specs.declared.Entry.{Entry}
@@ -101,13 +101,13 @@ renumberedRows (suc n) layer tail = take 10 (loweredAt tail 0 layer) ++ renumber
 unfoldable pub renumbered : LayerId → List ℕ → List ℕ
 renumbered layer tail = renumberedRows (length tail / 10) layer tail
 
--- ---- where an id stands among ids, by the cell of its home: a row to look at first, or 0 where the id is not held
+-- ---- where an id stands among ids, by the cell of its home: the row after the one to look at first, or 0 where the id is not held
 abbrev pub homeOf : List ℕ → ℕ → ℕ
 homeOf cells id = bitAnd (length cells - 1) id
 
 unfoldable pub placeBy : ℕ → List ℕ → ℕ → Found
 placeBy zero held id = Nothing
-placeBy (suc k) held id = cond (standsAt held k id) (At k) (firstAt held id)
+placeBy (suc k) held id = nearest held (suc k) id
 
 unfoldable pub placeOf : List ℕ → List ℕ → ℕ → Found
 placeOf cells held id = placeBy (getD cells (homeOf cells id) 1) held id

@@ -237,7 +237,8 @@ fn home(cells: &[u64], id: u64) -> usize
     ((cells.len() as u64 - 1) & id) as usize
 }
 
-// The row of an id among the first n. Where the cell of its home is 0, it has none.
+// The row of an id among the first n. Where the cell of its home is 0, it has none; else it is the row before the cell's, or a little below, since rows that
+// move go down.
 fn place(cells: &[u64], ids: &[u64], n: usize, id: u64) -> Found
     requires { ⌜ n ≤ length (now ids) ⌝ }
     ensures { λ r. ⌜ r ≡ placeOf (now (cells .entry)) (take n (now (ids .entry))) id ⌝ }
@@ -246,10 +247,7 @@ fn place(cells: &[u64], ids: &[u64], n: usize, id: u64) -> Found
     if cell == 0 {
         return Found::Nothing;
     }
-    if tables::stands(&ids[..n], (cell - 1) as usize, id) {
-        return Found::At((cell - 1) as usize);
-    }
-    tables::find(&ids[..n], id)
+    tables::find(&ids[..n], cell as usize, id)
 }
 
 // How many whole rows the tables have.

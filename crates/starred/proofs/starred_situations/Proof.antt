@@ -13,7 +13,7 @@ use Rattle.vec2.specs.Vec2.{normalizedOf, dotOf}
 use Rattle.candidate.specs.Candidate.{hasSignificantOverlap, rangeDiff, searchDirection, acosAngle, isInSearchCone, scoreOf, judgeOf}
 use Rattle.search.specs.Search.{consideredOf, inConeOf, goesFirst, isBetter, isBeaten, firstUnbeaten, findOf}
 use Rattle.layers.specs.Layers.{isLayer, layerRefusal}
-use Rattle.tables.specs.Tables.{firstFrom, standsAt, putAt, closed, onPart}
+use Rattle.tables.specs.Tables.{firstFrom, lastBelow, nearest, putAt, closed, onPart}
 use Rattle.widget_rect.specs.WidgetRect.{joinedOf, widgetRefusal, insertRefusal}
 use Rattle.widget_table.specs.Table.{isIn, indexAt, recordAt, nextIndex, pushWords, pushRects, loweredAt, renumberedRows, renumbered, placeBy, placeOf, roomOf, heldIn, foundIn, listIn, listOf, pushOf, removeOf, putHalf, joinedAt, rowAfter, refusalOf, insertOf, newTable}
 use Rattle.starred.specs.Starred.{registered, sameIds, holds, allHold}
@@ -21,7 +21,7 @@ use Rattle.starred.proofs.starred_situations.Statement.{statement}
 use Rattle.starred.proofs.starred_situations.Tie as tie
 
 returns : tie.Need-returns
-unfolding holds allHold registered sameIds isLayer layerRefusal firstFrom standsAt putAt closed onPart joinedOf widgetRefusal insertRefusal isIn indexAt recordAt nextIndex pushWords pushRects loweredAt renumberedRows renumbered placeBy placeOf roomOf heldIn foundIn listIn listOf pushOf removeOf putHalf joinedAt rowAfter refusalOf insertOf newTable lowest countOf roundAway roundUi within sideRefusal rectRefusal toFactor leftTop stateRefusal matchesKey maxF minF spanOf centerOf intersectionOf rootOf wholeNearest nearestOf lengthOf normalizedOf dotOf hasSignificantOverlap rangeDiff searchDirection acosAngle isInSearchCone scoreOf judgeOf consideredOf inConeOf goesFirst isBetter isBeaten firstUnbeaten findOf toBits ofBits round size add sub mul div neg lt le eq isNan
+unfolding holds allHold registered sameIds isLayer layerRefusal firstFrom lastBelow nearest putAt closed onPart joinedOf widgetRefusal insertRefusal isIn indexAt recordAt nextIndex pushWords pushRects loweredAt renumberedRows renumbered placeBy placeOf roomOf heldIn foundIn listIn listOf pushOf removeOf putHalf joinedAt rowAfter refusalOf insertOf newTable lowest countOf roundAway roundUi within sideRefusal rectRefusal toFactor leftTop stateRefusal matchesKey maxF minF spanOf centerOf intersectionOf rootOf wholeNearest nearestOf lengthOf normalizedOf dotOf hasSignificantOverlap rangeDiff searchDirection acosAngle isInSearchCone scoreOf judgeOf consideredOf inConeOf goesFirst isBetter isBeaten firstUnbeaten findOf toBits ofBits round size add sub mul div neg lt le eq isNan
 returns c = refl
 
 pub starred-situations-spec : {M : Type 1} → statement M

@@ -1,60 +1,28 @@
--- `tables::find` meets its contract. The invariant: the place found from here is the place found from the start. Assumes nothing.
-use mathlib.Core.Path.{_≡_, sym, refl, _∙_}
-use Prim.Native.Nat.{_-_}
-use native.Mathlib.Omega.{arith}
-use lib.ListN.{length, drop}
-use Rattle.tables.specs.Tables.{firstAt, firstFrom}
-use Rattle.tables.proofs.Finding.{find-past, find-here, find-more}
+-- `tables::find` meets its contract. Assumes nothing.
+use borrow.Author.Needs.{needs}
+use Rattle.tables.proofs.Finding.{near-below, near-from}
 use Rattle.tables.proofs.find.Statement.{statement}
 use Rattle.tables.proofs.find.Tie as tie
 
-abbrev Inv-loop : tie.InvT-loop
-Inv-loop xs x i₀ i = firstAt xs x ≡ firstFrom i (drop i xs) x
+find-below-requires : tie.Need-find-below-requires
+find-below-requires c κs = search needs
 
-abbrev μ-loop : tie.MeasureT-loop
-μ-loop xs x i₀ i = length xs - i
+enum-known-i : tie.Need-enum-known-i
+enum-known-i c = search needs
 
-loop-holds : tie.Need-loop-holds Inv-loop μ-loop
-loop-holds c = refl
+enum-told : tie.Need-enum-told
+enum-told c = search needs
 
-mul-if1 : tie.Need-mul-if1 Inv-loop μ-loop
-mul-if1 c = omega arith
+find-from-requires : tie.Need-find-from-requires
+find-from-requires c κs = search needs
 
-shared-slice-read-if1 : tie.Need-shared-slice-read-if1 Inv-loop μ-loop
-shared-slice-read-if1 c = omega arith
+returns : tie.Need-returns
+returns c = search near-below
 
-returns : tie.Need-returns Inv-loop μ-loop
-returns c =
-    let p = c .before .before .before in
-    sym (p .loop .inv ∙ find-here (p .before .args .xs .now) (p .loop .i) (p .before .args .x) (c .before .before .loop-test .taken) (c .if1 .taken))
-
-add-i : tie.Need-add-i Inv-loop μ-loop
-add-i c = omega arith
-
-loop-less : tie.Need-loop-less Inv-loop μ-loop
-loop-less c = omega arith
-
-loop-again : tie.Need-loop-again Inv-loop μ-loop
-loop-again c =
-    let p = c .before .before .before in
-    p .loop .inv ∙ find-more (p .before .args .xs .now) (p .loop .i) (p .before .args .x) (c .before .before .loop-test .taken) (c .if1 .left)
-
-returns-2 : tie.Need-returns-2 Inv-loop μ-loop
-returns-2 c =
-    let p = c .before in
-    sym (p .loop .inv ∙ find-past (p .before .args .xs .now) (p .loop .i) (p .before .args .x) (c .loop-test .left))
+returns-2 : tie.Need-returns-2
+returns-2 c = search near-from
 
 pub find-spec : {M : Type 1} → statement M
 find-spec =
     tie.close
-    (tie.spec
-    Inv-loop
-    μ-loop
-    loop-holds
-    mul-if1
-    shared-slice-read-if1
-    returns
-    add-i
-    loop-less
-    loop-again
-    returns-2)
+    (tie.spec find-below-requires enum-known-i enum-told find-from-requires returns returns-2)

@@ -1,6 +1,5 @@
 -- `widget_table::place` meets its contract. Assumes nothing.
-use Rattle.widget_table.proofs.Places.{place-none, place-here, place-scan}
-use native.Mathlib.Omega.{arith}
+use Rattle.widget_table.proofs.Places.{place-none, place-near}
 use lib.Seq.{length-take-le}
 use mathlib.Core.Path.{sym}
 use borrow.Author.Needs.{needs}
@@ -16,42 +15,16 @@ at-or-requires c κs = search needs
 returns : tie.Need-returns
 returns c = search place-none
 
-slice-aggregate-stands : tie.Need-slice-aggregate-stands
-slice-aggregate-stands c = sym (length-take-le _ _ (c .before .before .before .before .before .before .pre))
-
-sub-stands : tie.Need-sub-stands
-sub-stands c = search needs
-
-stands-requires : tie.Need-stands-requires
-stands-requires c κs = search needs
-
-sub-t12 : tie.Need-sub-t12
-sub-t12 c = search needs
-
-returns-2 : tie.Need-returns-2
-returns-2 c = search place-here
-
 slice-aggregate-find : tie.Need-slice-aggregate-find
-slice-aggregate-find c = sym (length-take-le _ _ (omega arith))
+slice-aggregate-find c = sym (length-take-le _ _ (c .before .before .before .before .before .before .pre))
 
 find-requires : tie.Need-find-requires
 find-requires c κs = search needs
 
-returns-3 : tie.Need-returns-3
-returns-3 c = search place-scan
+returns-2 : tie.Need-returns-2
+returns-2 c = search place-near
 
 pub place-spec : {M : Type 1} → statement M
 place-spec =
     tie.close
-    (tie.spec
-    home-requires
-    at-or-requires
-    returns
-    slice-aggregate-stands
-    sub-stands
-    stands-requires
-    sub-t12
-    returns-2
-    slice-aggregate-find
-    find-requires
-    returns-3)
+    (tie.spec home-requires at-or-requires returns slice-aggregate-find find-requires returns-2)
