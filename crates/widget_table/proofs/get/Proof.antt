@@ -1,5 +1,5 @@
-use Rattle.widget_table.proofs.Places.{found-below, entry-at, entry-none}
 -- `widget_table::get` meets its contract. Assumes nothing.
+use Rattle.widget_table.proofs.Places.{found-below, entry-at, entry-none}
 use mathlib.Core.Path.{_≡_, sym, _∙_}
 use native.Mathlib.Omega.{arith}
 use lib.Seq.{length-take-le}

@@ -1,7 +1,6 @@
-use mathlib.Core.Path.{sym}
-use Rattle.widget_table.proofs.Places.{held-is}
 -- `widget_table::next_in_layer` meets its contract. The invariant: the first from the start is the first from k on. Assumes nothing.
-use mathlib.Core.Path.{_≡_, refl, _∙_}
+use Rattle.widget_table.proofs.Places.{held-is}
+use mathlib.Core.Path.{_≡_, refl, sym, _∙_}
 use Prim.Native.Nat.{_≤_, _*_, _-_}
 use native.Mathlib.Omega.{arith}
 use borrow.Author.Needs.{needs}

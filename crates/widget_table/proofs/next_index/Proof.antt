@@ -1,6 +1,5 @@
-use mathlib.Core.Path.{sym}
 -- `widget_table::next_index` meets its contract. The invariant: the index after the last is the one that the rows below k have. Assumes nothing.
-use mathlib.Core.Path.{_≡_, refl, _∙_}
+use mathlib.Core.Path.{_≡_, refl, sym, _∙_}
 use Prim.Native.Nat.{_≤_}
 use native.Mathlib.Omega.{arith}
 use borrow.Author.Needs.{needs}

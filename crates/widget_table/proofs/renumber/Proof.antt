@@ -1,6 +1,5 @@
-use mathlib.Core.Path.{sym}
 -- `widget_table::renumber` meets its contract. The invariant: the rows before k are numbered anew, and with those from k on numbered so too it is the whole. Assumes nothing.
-use mathlib.Core.Path.{_≡_, refl, _∙_}
+use mathlib.Core.Path.{_≡_, refl, sym, _∙_}
 use Prim.Native.Nat.{_≤_, _*_, _-_}
 use mathlib.Core.List.{_++_}
 use native.Mathlib.Omega.{arith}
