@@ -1,7 +1,7 @@
 //! Lists about the registry: any calls of it, inserts that are refused, pages of widgets on a few layers, and a registry at its limit, both listed whole at the end.
 use crate::draw::Draw;
 use crate::limits::{near, turn_hostile};
-use crate::tables::{mixed, put_in};
+use crate::tables::mixed_with;
 
 pub fn registry(d: &mut Draw) -> Vec<String> {
     let calls = [
@@ -18,10 +18,7 @@ pub fn registry(d: &mut Draw) -> Vec<String> {
         "focusable_widgets_in_layer",
         "state",
     ];
-    let count = 5 + d.rng.below(60);
-    let mut lines = mixed(d, &calls, count);
-    put_in(d, &mut lines, "clear", 30);
-    lines
+    mixed_with(d, &calls, 60, "clear", 30)
 }
 
 /// A number that some place of an insert refuses: an id, an Order, a sense, a corner off the grid, past its bound or not finite, any code.

@@ -1,7 +1,9 @@
 //! Lists about the tables: layers that share an id, what a point hits, popups.
 use crate::draw::{Draw, steps};
 
-pub fn mixed(d: &mut Draw, calls: &[&'static str], count: usize) -> Vec<String> {
+/// Five calls or more, fewer than `most` of them past that.
+fn mixed(d: &mut Draw, calls: &[&'static str], most: usize) -> Vec<String> {
+    let count = 5 + d.rng.below(most);
     (0..count)
         .map(|_| {
             let name = d.rng.pick(calls);
@@ -10,12 +12,20 @@ pub fn mixed(d: &mut Draw, calls: &[&'static str], count: usize) -> Vec<String> 
         .collect()
 }
 
-/// A line put in anywhere, in so many of a hundred lists.
-pub fn put_in(d: &mut Draw, lines: &mut Vec<String>, line: &str, share: usize) {
+/// The same, with one more line put in anywhere in so many of a hundred lists.
+pub fn mixed_with(
+    d: &mut Draw,
+    calls: &[&'static str],
+    most: usize,
+    line: &str,
+    share: usize,
+) -> Vec<String> {
+    let mut lines = mixed(d, calls, most);
     if d.rng.percent(share) {
         let place = d.rng.below(lines.len());
         lines.insert(place, line.to_owned());
     }
+    lines
 }
 
 pub fn popups(d: &mut Draw) -> Vec<String> {
@@ -36,8 +46,7 @@ pub fn popups(d: &mut Draw) -> Vec<String> {
         "end",
         "state",
     ];
-    let count = 5 + d.rng.below(40);
-    mixed(d, &calls, count)
+    mixed(d, &calls, 40)
 }
 
 pub fn areas(d: &mut Draw) -> Vec<String> {
@@ -70,10 +79,7 @@ pub fn areas(d: &mut Draw) -> Vec<String> {
         "set_modal_layer",
         "state",
     ];
-    let count = 5 + d.rng.below(60);
-    let mut lines = mixed(d, &calls, count);
-    put_in(d, &mut lines, "reset_areas", 10);
-    lines
+    mixed_with(d, &calls, 60, "reset_areas", 10)
 }
 
 /// A few areas over one another, and points at their corners and edges or a step beside them.

@@ -4,9 +4,8 @@ use Prim.Native.Nat.{ℕ, zero, suc, _+_, _<_, _≤_}
 use native.Mathlib.Numerals.{add-one}
 use native.Mathlib.Omega.{arith}
 use mathlib.Core.Bool.{Bool, true, false, cond}
-use mathlib.Core.List.{List, [], _∷_}
+use mathlib.Core.List.{[], _∷_}
 use lib.Dec.{ltb}
-use lib.ListN.{replicate, length-replicate}
 use borrow.Author.Tests.{ltb-true}
 use Rattle.refusal.specs.Refusal.{lowest}
 use Rattle.refusal.proofs.Laws.{both-none}
@@ -18,7 +17,7 @@ use Rattle.widget_rect.specs.declared.WidgetRect.{WidgetRect}
 use Rattle.widget_rect.specs.WidgetRect.{joinedOf, insertRefusal}
 use Rattle.widget_table.specs.declared.Entry.{Entry}
 use Rattle.widget_table.specs.declared.Entry.the-variants.{Vacant}
-use Rattle.widget_table.specs.Table.{Rows, Table, roomOf, heldIn, heldOf, foundIn, entryAt, entryOf, listOf, refusalOf, recordAt, joinedAt, fullRefusal, unlessRefused, insertAt, insertOf, seenAt, newTable, clearOf}
+use Rattle.widget_table.specs.Table.{Rows, Table, roomOf, heldIn, heldOf, foundIn, entryAt, entryOf, listOf, refusalOf, recordAt, joinedAt, fullRefusal, unlessRefused, insertAt, insertOf, seenAt, clearOf}
 use Rattle.widget_maps.specs.Egui.{WidgetRects, insertedBy, inserted, fullRefusal as eguiFull, refusal, cleared}
 use Rattle.widget_maps.specs.Calls.{Calls, Insert, Clear, table, egui, unlessRefused as eguiUnless, eguiAfter}
 use Rattle.widget_maps.proofs.Row.{rowOf, rowsTo}
@@ -124,20 +123,19 @@ module _ (limit : ℕ) (t : Table) (m : WidgetRects) (h : Holds limit t m) where
         go (suc r) f = h
 
 -- ---- no rows, and any calls
-no-rows : (limit : ℕ) (cells : List ℕ) (t : Rows) → roomOf t ≡ limit → Holds limit (record { count = 0; cells = cells; rows = t }) cleared
+no-rows : (limit : ℕ) (t : Table) → t .count ≡ 0 → roomOf (t .rows) ≡ limit → Holds limit t cleared
 unfolding rowsTo cleared
-no-rows limit cells t e = record { room = e; few = omega arith; led = λ id p. refl; sound = empty .0; means = empty .1 }
+no-rows limit t n e = record { room = e; few = omega arith; led = λ id p. refl; sound = rw n (empty .0); means = rw n (empty .1) }
 
-module _ (cells limit : ℕ) (big : limit < 18446744073709551615) where
-  new-room : roomOf (newTable cells limit .rows) ≡ limit
-  unfolding newTable roomOf
-  new-room = simp length-replicate (omega arith)
+module _ (start : Table) (none : start .count ≡ 0) (big : roomOf (start .rows) < 18446744073709551615) where
+  abbrev limit : ℕ
+  limit = roomOf (start .rows)
 
-  holds : (calls : Calls) → Holds limit (table cells limit calls) (egui limit calls)
-  unfolding table egui newTable clearOf
-  holds [] = no-rows limit (replicate cells 0) (newTable cells limit .rows) new-room
-  holds (Insert layer new top ∷ before) = insert-step limit (table cells limit before) (egui limit before) (holds before) big layer new top
-  holds (Clear ∷ before) = no-rows limit (clearOf (table cells limit before) .cells) (table cells limit before .rows) (holds before .room)
+  holds : (calls : Calls) → Holds limit (table start calls) (egui limit calls)
+  unfolding table egui clearOf
+  holds [] = no-rows limit start none refl
+  holds (Insert layer new top ∷ before) = insert-step limit (table start before) (egui limit before) (holds before) big layer new top
+  holds (Clear ∷ before) = no-rows limit (clearOf (table start before)) refl (holds before .room)
 
-pub theorem : (cells limit : ℕ) → limit < 18446744073709551615 → (calls : Calls) → Agrees limit (table cells limit calls) (egui limit calls)
-theorem cells limit big calls = agrees limit (table cells limit calls) (egui limit calls) (holds cells limit big calls)
+  pub theorem : (calls : Calls) → Agrees limit (table start calls) (egui limit calls)
+  theorem calls = agrees limit (table start calls) (egui limit calls) (holds calls)

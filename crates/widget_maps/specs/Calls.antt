@@ -4,7 +4,7 @@ use mathlib.Core.Bool.{Bool}
 use mathlib.Core.List.{List, [], _∷_}
 use Rattle.layers.specs.declared.LayerId.{LayerId}
 use Rattle.widget_rect.specs.declared.WidgetRect.{WidgetRect}
-use Rattle.widget_table.specs.Table.{Table, newTable, insertOf, clearOf}
+use Rattle.widget_table.specs.Table.{Table, insertOf, clearOf}
 use Rattle.widget_maps.specs.Egui.{WidgetRects, inserted, refusal, cleared}
 
 pub data Call : Type 0 where
@@ -20,9 +20,9 @@ abbrev pub tableAfter : Call → Table → Table
 tableAfter (Insert layer widget move-to-top) t = insertOf t layer widget move-to-top
 tableAfter Clear t = clearOf t
 
-unfoldable pub table : ℕ → ℕ → Calls → Table
-table cells limit [] = newTable cells limit
-table cells limit (call ∷ before) = tableAfter call (table cells limit before)
+unfoldable pub table : Table → Calls → Table
+table start [] = start
+table start (call ∷ before) = tableAfter call (table start before)
 
 -- ---- egui, which is not asked a call that is refused
 abbrev pub unlessRefused : ℕ → WidgetRects → WidgetRects → WidgetRects

@@ -1,7 +1,7 @@
 -- Laws of the place of an id. Assumes nothing.
 use mathlib.Core.Path.{_≡_, refl, sym, _∙_}
 use mathlib.Core.List.{List}
-use Prim.Native.Nat.{ℕ, zero, suc, _+_, _-_, _*_, _/_, min, _<_, _≤_}
+use Prim.Native.Nat.{ℕ, zero, suc, _*_, _/_, min, _<_, _≤_}
 use native.Mathlib.Omega.{arith}
 use lib.Bits.{and-zero-l}
 use lib.ListN.{length, getD, take}
