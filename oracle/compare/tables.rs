@@ -7,6 +7,9 @@ fn mixed(d: &mut Draw, calls: &[&'static str], most: usize) -> Vec<String> {
     (0..count)
         .map(|_| {
             let name = d.rng.pick(calls);
+            if name == "end 0" {
+                return name.to_owned();
+            }
             d.call(name)
         })
         .collect()
@@ -59,7 +62,9 @@ pub fn areas(d: &mut Draw) -> Vec<String> {
         "set_sublayer",
         "set_sublayer",
         "end",
-        "end",
+        "end 0",
+        "end 0",
+        "end 0",
         "layer_id_at",
         "layer_id_at",
         "layer_ids",

@@ -3,7 +3,7 @@ ghost use mathlib.Core.Path.{_≡_};
 ghost use Rattle.refusal.specs.Refusal.{lowest, idRefusal, codeRefusal};
 
 // A call is accepted, an id is 0, a code passes the last of its kind, a number is off its grid, corners or a size are the wrong way round, a
-// table has no place left, a widget's record is of another layer than the call.
+// table has no place left, a widget's record is of another layer than the call, parent and child cannot be a pair, a pair does not fit the other pairs.
 pub const NONE: u64 = 0;
 
 pub const ZERO_ID: u64 = 1;
@@ -18,7 +18,13 @@ pub const FULL: u64 = 6;
 
 pub const OTHER_LAYER: u64 = 7;
 
-// How many widgets the registry holds.
+pub const BAD_PAIR: u64 = 8;
+
+pub const BAD_FAMILY: u64 = 9;
+
+// How many layers the stack holds, and widgets the registry.
+pub const LAYERS: usize = 64;
+
 pub const WIDGETS: usize = 256;
 
 // The last code of each kind.

@@ -1,6 +1,8 @@
 // The calls of the protocol, a function each: words in, what the library answers out.
 use crate::print::Reply;
 use crate::registry;
+use crate::stack;
+use crate::stack::Told;
 use crate::values;
 use crate::values::EventWords;
 use crate::words;
@@ -8,11 +10,12 @@ use crate::words::Words;
 use area::PosAnswer;
 use area::RectAnswer;
 use area::StateAnswer;
+use areas::Areas;
 use input::Matched;
 
 // `left_top_pos STATE`
 fn left_top_pos(v: [u64; 20]) -> Reply {
-    match values::state(v).left_top_pos() {
+    match values::state(v, 0).left_top_pos() {
         PosAnswer::Is(p) => Reply::Pos(p),
         PosAnswer::Refused(n) => Reply::Refused(n),
     }
@@ -20,7 +23,7 @@ fn left_top_pos(v: [u64; 20]) -> Reply {
 
 // `rect STATE`
 fn rect(v: [u64; 20]) -> Reply {
-    match values::state(v).rect() {
+    match values::state(v, 0).rect() {
         RectAnswer::Is(r) => Reply::Rect(r),
         RectAnswer::Refused(n) => Reply::Refused(n),
     }
@@ -28,7 +31,7 @@ fn rect(v: [u64; 20]) -> Reply {
 
 // `set_left_top_pos STATE X Y`
 fn set_left_top_pos(v: [u64; 20]) -> Reply {
-    match values::state(v).set_left_top_pos(values::pos_after_state(v)) {
+    match values::state(v, 0).set_left_top_pos(values::pos_after_state(v)) {
         StateAnswer::Is(s) => Reply::State(s),
         StateAnswer::Refused(n) => Reply::Refused(n),
     }
@@ -79,10 +82,11 @@ fn stateless(line: &[u8]) -> Reply {
     Reply::Bad
 }
 
-// What a line is answered, and how many widgets are then held.
+// What a line is answered, how many widgets are then held, and the stack.
 pub struct Answered {
     pub reply: Reply,
     pub count: usize,
+    pub areas: Areas,
 }
 
 fn call(
@@ -91,17 +95,55 @@ fn call(
     ids: &mut [u64],
     words: &mut [u64],
     rects: &mut [f32],
-    count: usize,
+    before: State,
 ) -> Answered {
+    let areas = before.areas;
     let c = registry::look_up(line);
     if c.words.fit {
         let v = c.words.v;
-        return registry::call(c.number, v, cells, ids, words, rects, count);
+        let t = registry::call(c.number, v, cells, ids, words, rects, before.count);
+        let reply = t.reply;
+        return Answered {
+            reply: reply,
+            count: t.count,
+            areas: unless_new(c.number, areas),
+        };
     }
+    let t = told(line, areas);
+    let reply = t.reply;
+    let after = t.areas;
     Answered {
-        reply: stateless(line),
-        count: count,
+        reply: reply,
+        count: before.count,
+        areas: after,
     }
+}
+
+// `new` has a new stack.
+fn unless_new(number: usize, areas: Areas) -> Areas {
+    if number == registry::NEW {
+        return Areas::new();
+    }
+    areas
+}
+
+// A call of the stack, or one without state.
+fn told(line: &[u8], areas: Areas) -> Told {
+    let c = stack::look_up(line);
+    if c.words.fit {
+        let v = c.words.v;
+        return stack::call(c.number, v, areas);
+    }
+    Told {
+        reply: stateless(line),
+        areas: areas,
+    }
+}
+
+// How many widgets are held, and the stack.
+pub struct State {
+    pub count: usize,
+    pub areas: Areas,
 }
 
 // What the first bytes of a line's buffer are answered.
@@ -112,13 +154,15 @@ pub fn answer(
     ids: &mut [u64],
     words: &mut [u64],
     rects: &mut [f32],
-    count: usize,
+    before: State,
 ) -> Answered {
     if line.len() < held {
+        let areas = before.areas;
         return Answered {
             reply: Reply::Bad,
-            count: count,
+            count: before.count,
+            areas: areas,
         };
     }
-    call(&line[..held], cells, ids, words, rects, count)
+    call(&line[..held], cells, ids, words, rects, before)
 }

@@ -6,9 +6,12 @@ ghost use lib.ListN.{length};
 mod calls;
 mod print;
 mod registry;
+mod stack;
 mod values;
 mod words;
 
+use crate::calls::State;
+use areas::Areas;
 use libc::STDIN_FILENO;
 use libc::STDOUT_FILENO;
 use refusal::WIDGETS;
@@ -23,11 +26,13 @@ fn output() -> [u8; 262144]
     [0; 262144]
 }
 
-// How much of the line's buffer is taken, past its end where the line does not fit, how much of the output, and how many widgets are held.
+// How much of the line's buffer is taken, past its end where the line does not fit, how much of the output, how many widgets are held, and
+// the stack.
 struct Progress {
     held: usize,
     used: usize,
     count: usize,
+    areas: Areas,
 }
 
 fn write(out: &[u8], used: usize) {
@@ -46,13 +51,20 @@ fn put_answer(
     rects: &mut [f32],
     before: Progress,
 ) -> Progress {
-    let a = calls::answer(line, before.held, cells, ids, words, rects, before.count);
+    let areas = before.areas;
+    let state = State {
+        count: before.count,
+        areas: areas,
+    };
+    let a = calls::answer(line, before.held, cells, ids, words, rects, state);
     let reply = a.reply;
-    let end = print::answer(out, before.used, reply, ids, words, rects, a.count);
+    let after = a.areas;
+    let end = print::answer(out, before.used, reply, ids, words, rects, a.count, after);
     Progress {
         held: 0,
         used: unless_full(out, before.used, end),
         count: a.count,
+        areas: after,
     }
 }
 
@@ -138,6 +150,7 @@ fn take_all(
         held: 0,
         used: 0,
         count: 0,
+        areas: Areas::new(),
     };
     for _ in 0..ROUNDS {
         let n = io::read_full(STDIN_FILENO, chunk);

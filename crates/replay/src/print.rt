@@ -1,9 +1,13 @@
 // Answers, put into the output at a place; each function answers the place after what it put.
 use crate::values;
 use area::AreaState;
+use areas::Areas;
+use areas::Layers;
+use areas::Windows;
 use emath::Pos2;
 use emath::Rect;
 use layers::LayerId;
+use refusal::LAYERS;
 use refusal::WIDGETS;
 use widget_rect::WidgetRect;
 use widget_rects::lent;
@@ -19,10 +23,17 @@ pub enum Reply {
     Pos(Pos2),
     Rect(Rect),
     State(AreaState),
+    Number(u64),
+    Layer(LayerId),
     Order(LayerId, u64),
     Widget(WidgetRect),
     // The widgets of a layer, or the ids of those that are focusable.
     List(LayerId, bool),
+    // The layers of the stack, the visible ones, the windows, the children of a layer.
+    Stack,
+    Visible,
+    Windows,
+    Children(LayerId),
 }
 
 fn put_refused(out: &mut [u8], at: usize, n: u64) -> usize {
@@ -168,6 +179,7 @@ fn put_reply(
     words: &[u64],
     rects: &[f32],
     count: usize,
+    areas: Areas,
 ) -> usize {
     match r {
         Reply::Bad => text::put_bytes(out, at, b"bad"),
@@ -178,6 +190,8 @@ fn put_reply(
         Reply::Pos(p) => put_words(out, at, b"xx", values::pos_words(p)),
         Reply::Rect(r) => put_words(out, at, b"xxxx", values::rect_words(r)),
         Reply::State(s) => put_words(out, at, b"fxxnnfxxf", values::state_words(s)),
+        Reply::Number(n) => text::put_number(out, at, n),
+        Reply::Layer(l) => put_words(out, at, b"nn", values::layer_words(l)),
         Reply::Order(l, i) => put_words(out, at, b"nnn", values::order_words(l, i)),
         Reply::Widget(w) => put_words(out, at, b"nnnnxxxxxxxxnff", values::widget_words(w)),
         Reply::List(l, focusable) => {
@@ -186,7 +200,42 @@ fn put_reply(
             }
             put_list(out, at, ids, words, rects, count, l)
         }
+        Reply::Stack => put_layers(out, at, areas.order()),
+        Reply::Visible => put_layers(out, at, areas.visible_layer_ids()),
+        Reply::Windows => put_windows(out, at, areas.visible_windows()),
+        Reply::Children(l) => put_layers(out, at, areas.child_layers(l)),
     }
+}
+
+fn put_layer(out: &mut [u8], at: usize, layer: LayerId) -> usize {
+    let i = text::put_bytes(out, at, b" ");
+    put_words(out, i, b"nn", values::layer_words(layer))
+}
+
+// How many, and each.
+fn put_layers(out: &mut [u8], at: usize, list: Layers) -> usize {
+    let layers = list.layers;
+    let mut place = text::put_number(out, at, list.count as u64);
+    for i in 0..LAYERS {
+        if list.count <= i {
+            return place;
+        }
+        place = put_layer(out, place, layers[i]);
+    }
+    place
+}
+
+// egui's pairs, of which the protocol shows the layer.
+fn put_windows(out: &mut [u8], at: usize, list: Windows) -> usize {
+    let windows = list.windows;
+    let mut place = text::put_number(out, at, list.count as u64);
+    for i in 0..LAYERS {
+        if list.count <= i {
+            return place;
+        }
+        place = put_layer(out, place, windows[i].layer);
+    }
+    place
 }
 
 // An answer with the end of its line.
@@ -198,8 +247,9 @@ pub fn answer(
     words: &[u64],
     rects: &[f32],
     count: usize,
+    areas: Areas,
 ) -> usize {
-    let i = put_reply(out, at, r, ids, words, rects, count);
+    let i = put_reply(out, at, r, ids, words, rects, count, areas);
     text::put_bytes(out, i, b"\n")
 }
 

@@ -43,16 +43,27 @@ fn size(held: u64, x: u64, y: u64) -> Size {
     Size::Absent
 }
 
-// The nine words of a STATE.
-pub fn state(v: [u64; 20]) -> AreaState {
-    let pivot_pos = pivot_pos(v[0], v[1], v[2]);
-    let size = size(v[5], v[6], v[7]);
+// The nine words of a STATE, from a place on.
+pub fn state(v: [u64; 20], at: usize) -> AreaState {
+    if 11 < at {
+        return AreaState::new();
+    }
+    let pivot_pos = pivot_pos(v[at], v[at + 1], v[at + 2]);
+    let size = size(v[at + 5], v[at + 6], v[at + 7]);
     AreaState {
         pivot_pos: pivot_pos,
-        pivot: Align2 { x: v[3], y: v[4] },
+        pivot: Align2 {
+            x: v[at + 3],
+            y: v[at + 4],
+        },
         size: size,
-        interactable: v[8] == 1,
+        interactable: v[at + 8] == 1,
     }
+}
+
+// Two floats of words.
+pub fn pos_of(v: [u64; 20]) -> Pos2 {
+    pos(v[0], v[1])
 }
 
 fn rect(x0: u64, y0: u64, x1: u64, y1: u64) -> Rect {
@@ -274,5 +285,12 @@ pub fn order_words(layer: LayerId, index: u64) -> [u64; 20] {
     v[0] = layer.order;
     v[1] = layer.id;
     v[2] = index;
+    v
+}
+
+pub fn layer_words(layer: LayerId) -> [u64; 20] {
+    let mut v = [0; 20];
+    v[0] = layer.order;
+    v[1] = layer.id;
     v
 }

@@ -2,3 +2,4 @@
 pub mod Finding
 pub mod Rows
 pub mod Writing
+pub mod Written

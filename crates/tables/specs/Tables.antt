@@ -41,3 +41,7 @@ module _ {A : Type 0} where
   -- ---- row k of rows that are s long each
   unfoldable pub rowAt : ℕ → ℕ → List A → List A
   rowAt s k xs = take s (drop (s * k) xs)
+
+  -- ---- a list on the first places of another, as far as they go; the places after it keep what they had
+  unfoldable pub writtenOn : List A → List A → List A
+  writtenOn out list = take (length out) list ++ drop (length list) out

@@ -10,6 +10,7 @@ use Rattle.refusal.specs.Refusal.{idRefusal, answered}
 use Rattle.emath.specs.declared.Rect.{Rect}
 use Rattle.layers.specs.declared.LayerId.{LayerId}
 use Rattle.layers.specs.Layers.{layerRefusal}
+use Rattle.tables.specs.Tables.{writtenOn}
 use Rattle.widget_rect.specs.declared.WidgetRect.{WidgetRect}
 use Rattle.widget_rect.specs.WidgetRect.{isFocusable}
 use Rattle.widget_table.specs.declared.Entry.{Entry}
@@ -78,10 +79,6 @@ containsAnswer t id = containsOf id (entryOf t id)
 unfoldable pub focusableIds : List WidgetRect → List ℕ
 focusableIds [] = []
 focusableIds (w ∷ list) = cond (isFocusable w) (w .id ∷ focusableIds list) (focusableIds list)
-
--- a list on the first places of another, as far as they go; the places after it keep what they had
-unfoldable pub writtenOn : {A : Type 0} → List A → List A → List A
-writtenOn out list = take (length out) list ++ drop (length list) out
 
 abbrev pub blankWidget : WidgetRect
 blankWidget =

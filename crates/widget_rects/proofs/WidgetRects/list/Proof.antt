@@ -8,7 +8,8 @@ use Rattle.refusal.specs.Limits.{widgets}
 use Rattle.widget_table.specs.Table.{rowsIn}
 use Rattle.widget_rects.specs.WidgetRects.{blankWidget}
 use Rattle.widget_rects.proofs.Rest.{restOf, all-left, past-rows, none-left, one-left}
-use Rattle.widget_rects.proofs.Written.{Written, none-written, same-long, write, all-listed}
+use Rattle.tables.proofs.Written.{Written, none-written, same-long, write}
+use Rattle.widget_rects.proofs.Written.{all-listed}
 use Rattle.widget_rects.proofs.WidgetRects.list.Statement.{statement}
 use Rattle.widget_rects.proofs.WidgetRects.list.Tie as tie
 

@@ -7,7 +7,8 @@ use borrow.Author.Needs.{needs}
 use Rattle.widget_table.specs.Table.{rowsIn}
 use Rattle.widget_rects.specs.WidgetRects.{focusableIds}
 use Rattle.widget_rects.proofs.Rest.{restOf, all-left, past-rows, none-left, one-left}
-use Rattle.widget_rects.proofs.Written.{Written, none-written, same-long, write-focusable, all-focusable}
+use Rattle.tables.proofs.Written.{Written, none-written, same-long}
+use Rattle.widget_rects.proofs.Written.{write-focusable, all-focusable}
 use Rattle.widget_rects.proofs.lent.focusable_widgets.Statement.{statement}
 use Rattle.widget_rects.proofs.lent.focusable_widgets.Tie as tie
 

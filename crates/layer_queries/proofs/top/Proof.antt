@@ -1,0 +1,59 @@
+-- `layer_queries::top` meets its contract. The invariant: above the rows that are left there is none. Assumes nothing.
+use native.Mathlib.Omega.{arith}
+use borrow.Author.Needs.{needs}
+use Rattle.layer_rows.specs.Rows.{heldRows}
+use Rattle.layer_queries.specs.Queries.{isTopRow}
+use Rattle.layer_queries.proofs.Tops.{Left, all-left, none-left, last-found, less-left}
+use Rattle.layer_queries.proofs.top.Statement.{statement}
+use Rattle.layer_queries.proofs.top.Tie as tie
+
+abbrev Inv-loop : tie.InvT-loop
+Inv-loop rows count order k₀ k = Left (isTopRow order) (heldRows count rows) k
+
+abbrev μ-loop : tie.MeasureT-loop
+μ-loop rows count order k₀ k = k
+
+held-requires : tie.Need-held-requires Inv-loop μ-loop
+held-requires c κs = search needs
+
+loop-holds : tie.Need-loop-holds Inv-loop μ-loop
+loop-holds c = all-left _ _ _ _ (c .held .ensures)
+
+sub-k : tie.Need-sub-k Inv-loop μ-loop
+sub-k c = search needs
+
+row-at-requires : tie.Need-row-at-requires Inv-loop μ-loop
+row-at-requires c κs = search needs
+
+is-top-requires : tie.Need-is-top-requires Inv-loop μ-loop
+is-top-requires c κs = search needs
+
+returns : tie.Need-returns Inv-loop μ-loop
+returns c = search last-found
+
+loop-less : tie.Need-loop-less Inv-loop μ-loop
+loop-less c = omega arith
+
+loop-again : tie.Need-loop-again Inv-loop μ-loop
+loop-again c =
+    let p = c .before .before .before in
+    less-left _ _ _ _ (p .before .loop .inv) (p .loop-test .taken) _ _ (c .before .before .row-at .ensures) _ (c .before .is-top .ensures) (c .if1 .left)
+
+returns-2 : tie.Need-returns-2 Inv-loop μ-loop
+returns-2 c = search none-left
+
+pub top-spec : {M : Type 1} → statement M
+top-spec =
+    tie.close
+    (tie.spec
+    Inv-loop
+    μ-loop
+    held-requires
+    loop-holds
+    sub-k
+    row-at-requires
+    is-top-requires
+    returns
+    loop-less
+    loop-again
+    returns-2)
