@@ -6,6 +6,7 @@
 //!     oracle searches N SEED    what egui's directional search finds in N tables (oracle/search has the port's side)
 //!     oracle times       how long it takes
 //!     oracle inserts     how long an insert into egui's registry takes (oracle/registry has the port's side)
+//!     oracle passes      how long the calls of egui's stack take (oracle/stack has the port's side)
 #![allow(dead_code, unexpected_cfgs, unused_imports)]
 extern crate alloc;
 
@@ -20,11 +21,14 @@ mod inserts;
 mod line;
 #[path = "../registry/pages.rs"]
 mod pages;
+#[path = "../stack/passes.rs"]
+mod passes;
 mod refusals;
 #[path = "../compare/rng.rs"]
 mod rng;
 mod searches;
 mod simple;
+mod stacks;
 mod stand_ins;
 #[path = "../search/tables.rs"]
 mod tables;
@@ -66,7 +70,11 @@ fn main() -> std::io::Result<()> {
             inserts::times();
             Ok(())
         }
-        _ => panic!("usage: oracle [falling | hypot N | searches N SEED | times | inserts]"),
+        ["passes"] => {
+            stacks::times();
+            Ok(())
+        }
+        _ => panic!("usage: oracle [falling | hypot N | searches N SEED | times | inserts | passes]"),
     }
 }
 

@@ -24,7 +24,8 @@ use Rattle.area_table.specs.Table as Table
 use Rattle.areas.specs.Areas.{shownRow}
 use Rattle.area_maps.specs.Egui.{pushed, placeIn}
 use Rattle.area_maps.specs.Egui as Egui
-use Rattle.area_maps.proofs.Meaning.{layersIn, hasId, childIn, meaning, Sound}
+use Rattle.area_maps.specs.Meaning.{layersIn, childIn, meaning}
+use Rattle.area_maps.proofs.Sound.{hasId, Sound}
 use Rattle.area_maps.proofs.Marked.{field-same, flag-set, layers-marked, pushed-take, pushed-length}
 use Rattle.area_maps.proofs.Pushed.{pushed-distinct, pushed-orders, pushed-still, pushed-self, pairs-still}
 

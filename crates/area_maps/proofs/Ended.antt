@@ -24,7 +24,8 @@ use Rattle.layer_sort.proofs.Stacked.{ended-layers}
 use Rattle.area_table.specs.Table.{Entry}
 use Rattle.area_maps.specs.Egui.{placeIn}
 use Rattle.area_maps.specs.Egui as Egui
-use Rattle.area_maps.proofs.Meaning.{layersIn, hasId, childIn, meaning, Sound}
+use Rattle.area_maps.specs.Meaning.{layersIn, childIn, meaning}
+use Rattle.area_maps.proofs.Sound.{hasId, Sound}
 use Rattle.area_maps.proofs.Pushed.{or-true, or-right, no-pairs}
 use Rattle.area_maps.proofs.Changes.{length-layers, some-still}
 

@@ -1,5 +1,5 @@
 -- What the record's tables mean, and that every call keeps it.
-pub mod Meaning
+pub mod Sound
 pub mod Marked
 pub mod Pushed
 pub mod Changes

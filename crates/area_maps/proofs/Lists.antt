@@ -17,7 +17,7 @@ use Rattle.layer_rows.specs.Rows.{spotIn}
 use Rattle.layer_queries.specs.declared.LayerAnswer.the-variants.{Nothing, Is}
 use Rattle.layer_queries.specs.Queries.{orElse, lastOf, rankIn}
 use Rattle.area_maps.specs.Egui.{placeIn, topmost}
-use Rattle.area_maps.proofs.Meaning.{layersIn}
+use Rattle.area_maps.specs.Meaning.{layersIn}
 
 -- ---- a test of the elements, and one of what f gives of them
 module _ {A B : Type 0} (f : A → B) where

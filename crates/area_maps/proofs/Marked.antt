@@ -13,21 +13,9 @@ use Rattle.stacking.specs.Stacking.{holds}
 use Rattle.stacking.proofs.Layers.{same-layers, layer-itself}
 use Rattle.layer_rows.specs.declared.Row.{Row}
 use Rattle.layer_rows.specs.Rows.{newRow, spotIn, rowOf, marked}
+use Rattle.layer_rows.proofs.Marks.{row-none, row-cons}
 use Rattle.area_maps.specs.Egui.{pushed}
-use Rattle.area_maps.proofs.Meaning.{layersIn}
-
--- what is held of a layer: the first row's, if it is of the layer, or else what the others hold
-pub row-first : (r : Row) (rows : List Row) (l : LayerId) → rowOf (r ∷ rows) l ≡ cond (isLayer (r .layer) l) r (rowOf rows l)
-unfolding rowOf spotIn
-row-first r rows l = go (isLayer (r .layer) l)
-  where
-    go : (t : Bool) → getD (r ∷ rows) (cond t 0 (suc (spotIn rows l))) (newRow l) ≡ cond t r (getD rows (spotIn rows l) (newRow l))
-    go true = refl
-    go false = refl
-
-pub row-none : (l : LayerId) → rowOf [] l ≡ newRow l
-unfolding rowOf
-row-none l = refl
+use Rattle.area_maps.specs.Meaning.{layersIn}
 
 not-both : (a b c : LayerId) → isLayer a c ≡ true → isLayer b c ≡ true → isLayer a b ≡ false → ⊥
 not-both a b c p q n = true≢false (sym (rw (same-layers a c p, same-layers b c q) (layer-itself c)) ∙ n)
@@ -36,7 +24,7 @@ not-both a b c p q n = true≢false (sym (rw (same-layers a c p, same-layers b c
 module _ (f : Row → Row) (keeps : (r : Row) → f r .layer ≡ r .layer) (l : LayerId) where
   pub row-marked : (rows : List Row) (x : LayerId) → rowOf (marked f rows l) x ≡ cond (isLayer l x) (f (rowOf rows l)) (rowOf rows x)
   unfolding marked
-  row-marked [] x = row-first (f (newRow l)) [] x ∙ ap (λ (k : LayerId). cond (isLayer k x) (f (newRow l)) (rowOf [] x)) (keeps (newRow l)) ∙ rw (row-none l)
+  row-marked [] x = row-cons (f (newRow l)) [] x ∙ ap (λ (k : LayerId). cond (isLayer k x) (f (newRow l)) (rowOf [] x)) (keeps (newRow l)) ∙ rw (row-none l)
   row-marked (r ∷ rows) x = go (isLayer (r .layer) l) refl (row-marked rows x)
     where
       first : (b : Bool) → cond b (f r) (rowOf rows x) ≡ cond b (f r) (cond b r (rowOf rows x))
@@ -51,11 +39,11 @@ module _ (f : Row → Row) (keeps : (r : Row) → f r .layer ≡ r .layer) (l : 
       go : (t : Bool) → isLayer (r .layer) l ≡ t → rowOf (marked f rows l) x ≡ cond (isLayer l x) (f (rowOf rows l)) (rowOf rows x) → rowOf (cond t (f r ∷ rows) (r ∷ marked f rows l)) x ≡ cond (isLayer l x) (f (rowOf (r ∷ rows) l)) (rowOf (r ∷ rows) x)
       go true e rest =
           let q = same-layers (r .layer) l e in
-          let own : rowOf (r ∷ rows) l ≡ r = row-first r rows l ∙ rw e in
-          let other : rowOf (r ∷ rows) x ≡ cond (isLayer l x) r (rowOf rows x) = row-first r rows x ∙ ap (λ (k : LayerId). cond (isLayer k x) r (rowOf rows x)) q in
-          row-first (f r) rows x ∙ ap (λ (k : LayerId). cond (isLayer k x) (f r) (rowOf rows x)) (keeps r ∙ q) ∙ first (isLayer l x)
+          let own : rowOf (r ∷ rows) l ≡ r = row-cons r rows l ∙ rw e in
+          let other : rowOf (r ∷ rows) x ≡ cond (isLayer l x) r (rowOf rows x) = row-cons r rows x ∙ ap (λ (k : LayerId). cond (isLayer k x) r (rowOf rows x)) q in
+          row-cons (f r) rows x ∙ ap (λ (k : LayerId). cond (isLayer k x) (f r) (rowOf rows x)) (keeps r ∙ q) ∙ first (isLayer l x)
           ∙ sym (ap (λ (y : Row). cond (isLayer l x) (f y) (rowOf (r ∷ rows) x)) own ∙ ap (λ (y : Row). cond (isLayer l x) (f r) y) other)
-      go false e rest = rw (row-first r (marked f rows l) x, row-first r rows l, row-first r rows x, e, rest) (later (isLayer (r .layer) x) (isLayer l x) refl refl e)
+      go false e rest = rw (row-cons r (marked f rows l) x, row-cons r rows l, row-cons r rows x, e, rest) (later (isLayer (r .layer) x) (isLayer l x) refl refl e)
 
   -- a field that the change leaves, and a flag that it sets
   pub field-same : {A : Type 0} (g : Row → A) → ((r : Row) → g (f r) ≡ g r) → (rows : List Row) (x : LayerId) → g (rowOf (marked f rows l) x) ≡ g (rowOf rows x)

@@ -16,17 +16,19 @@ use Rattle.layer_rows.specs.declared.Row.{Row}
 use Rattle.layer_rows.specs.Rows.{rowOf, marked}
 use Rattle.layer_queries.specs.Queries.{isSublayerRow, isChildRow}
 use Rattle.layer_table.specs.Layers.{roomIn, kept, same, childRow, fullRefusal, pairRefusal, familyRefusal, otherParent, withSublayer, sublayerRefusal}
+use Rattle.layer_table.proofs.Changes.{room-left}
 use Rattle.areas.specs.declared.Areas.{Areas}
 use Rattle.areas.specs.Areas.{stackOf, withStack, sublayerSet}
 use Rattle.area_maps.specs.Egui.{pushed}
 use Rattle.area_maps.specs.Egui as Egui
-use Rattle.area_maps.specs.Calls.{SetSublayer, eguiAfter}
-use Rattle.area_maps.proofs.Meaning.{layersIn, meaningOf, entriesIn, Sound, SoundAreas}
+use Rattle.area_maps.specs.Calls.{SetSublayer, eguiStep}
+use Rattle.area_maps.specs.Meaning.{layersIn, meaningOf, entriesIn}
+use Rattle.area_maps.proofs.Sound.{Sound, SoundAreas}
 use Rattle.area_maps.proofs.Marked.{layers-marked}
 use Rattle.area_maps.proofs.Pushed.{and-true, or-false, turned}
 use Rattle.area_maps.proofs.Sublayers.{sublayer-means, sound-sublayer}
 use Rattle.area_maps.proofs.Queries.{refusal-family}
-use Rattle.area_maps.proofs.Steps.{layer-taken, room-left, full-same, sound-stack, stack-means}
+use Rattle.area_maps.proofs.Steps.{layer-taken, full-same, sound-stack, stack-means}
 
 -- ---- what refusals 8 and 9 that are none say of a pair
 module _ (parent child : LayerId) where
@@ -95,7 +97,7 @@ module _ (limit : ℕ) (a : Areas) (s : SoundAreas limit a) (parent child : Laye
         let (alone, top, root) = family-taken parent child (stackOf a) r2 in
         stack-means limit a s (a .placed) (withSublayer (stackOf a) parent child) fits sub-sound ∙ sublayer-means parent child (stackOf a) order held alone (a .placed) (entriesIn a) (s .sound .placedHeld)
 
-  pub sub-step : SoundAreas limit (sublayerSet a parent child .areas) × (meaningOf (sublayerSet a parent child .areas) ≡ eguiAfter limit (SetSublayer parent child) (meaningOf a))
+  pub sub-step : SoundAreas limit (sublayerSet a parent child .areas) × (meaningOf (sublayerSet a parent child .areas) ≡ eguiStep limit (SetSublayer parent child) (meaningOf a))
   unfolding sublayerSet
   sub-step = rw (← sub-refusal) (go (sublayerRefusal (roomIn (a .rows)) (stackOf a) parent child) refl)
     where

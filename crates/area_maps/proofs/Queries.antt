@@ -28,7 +28,8 @@ use Rattle.areas.specs.declared.Window.{Window}
 use Rattle.areas.specs.Areas.{hitBy, hitRow, windowState, windowIn}
 use Rattle.area_maps.specs.Egui.{placeIn}
 use Rattle.area_maps.specs.Egui as Egui
-use Rattle.area_maps.proofs.Meaning.{layersIn, childIn, meaning, Sound}
+use Rattle.area_maps.specs.Meaning.{layersIn, childIn, meaning}
+use Rattle.area_maps.proofs.Sound.{Sound}
 use Rattle.area_maps.proofs.Lists.{keep-map, some-map, each-map, take-map, keep-every, some-both, each-keep, last-topmost, topmost-only, rank-place}
 
 -- ---- the layer that a row says is its layer's parent

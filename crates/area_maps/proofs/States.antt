@@ -32,8 +32,9 @@ use Rattle.areas.specs.declared.Areas.{Areas}
 use Rattle.areas.specs.Areas.{tablesOf, stackOf, areasIn, areasOf, slotOf, shownRow, roomRefusal, setStateRefusal, setStateOf, withState, stateSet}
 use Rattle.area_maps.specs.Egui.{pushed}
 use Rattle.area_maps.specs.Egui as Egui
-use Rattle.area_maps.specs.Calls.{SetState, eguiAfter}
-use Rattle.area_maps.proofs.Meaning.{layersIn, hasId, meaning, meaningOf, entriesIn, Sound, SoundAreas}
+use Rattle.area_maps.specs.Calls.{SetState, eguiStep}
+use Rattle.area_maps.specs.Meaning.{layersIn, meaning, meaningOf, entriesIn}
+use Rattle.area_maps.proofs.Sound.{hasId, Sound, SoundAreas}
 use Rattle.area_maps.proofs.Marked.{layers-marked}
 use Rattle.area_maps.proofs.Changes.{length-layers, marked-known, sound-marked, state-means}
 use Rattle.area_maps.proofs.Steps.{layer-taken}
@@ -157,7 +158,7 @@ module _ (limit : ℕ) (a : Areas) (s : SoundAreas limit a) (l : LayerId) (state
     state-next : meaningOf next ≡ Egui.setState (meaningOf a) l state
     state-next = rw (stack-next, entries-next) (state-means l (a .placed) (stackOf a) (entriesIn a) (s .sound .placedHeld) (slot + 1) state)
 
-  pub state-step : SoundAreas limit (stateSet a l state .areas) × (meaningOf (stateSet a l state .areas) ≡ eguiAfter limit (SetState l state) (meaningOf a))
+  pub state-step : SoundAreas limit (stateSet a l state .areas) × (meaningOf (stateSet a l state .areas) ≡ eguiStep limit (SetState l state) (meaningOf a))
   unfolding stateSet setStateOf
   state-step = rw (← state-refusal) (go (setStateRefusal (tablesOf a) l state) refl)
     where

@@ -22,13 +22,15 @@ use Rattle.layer_sort.specs.Sort.{endRows}
 use Rattle.layer_sort.proofs.Meaning.{ended-length}
 use Rattle.layer_rows.proofs.Marks.{mark-length}
 use Rattle.layer_table.specs.Layers.{roomIn, kept, same, raisedRow, childRow, fullRefusal, pairRefusal, familyRefusal, otherParent, toTop, topRefusal, withSublayer, sublayerRefusal}
+use Rattle.layer_table.proofs.Changes.{room-left}
 use Rattle.area_table.specs.Table.{Entry}
 use Rattle.areas.specs.declared.Areas.{Areas}
 use Rattle.areas.specs.Areas.{stackOf, areasIn, withStack, toTopOf, sublayerSet, passEnded}
 use Rattle.area_maps.specs.Egui.{pushed}
 use Rattle.area_maps.specs.Egui as Egui
-use Rattle.area_maps.specs.Calls.{MoveToTop, eguiAfter}
-use Rattle.area_maps.proofs.Meaning.{layersIn, meaning, meaningOf, entriesIn, Sound, SoundAreas}
+use Rattle.area_maps.specs.Calls.{MoveToTop, eguiStep}
+use Rattle.area_maps.specs.Meaning.{layersIn, meaning, meaningOf, entriesIn}
+use Rattle.area_maps.proofs.Sound.{Sound, SoundAreas}
 use Rattle.area_maps.proofs.Marked.{layers-marked}
 use Rattle.area_maps.proofs.Changes.{length-layers, sound-marked, top-means}
 use Rattle.area_maps.proofs.Sublayers.{sublayer-means, sound-sublayer}
@@ -49,13 +51,6 @@ layer-taken l e =
     code : (t : Bool) → ltb lastOrder (l .order) ≡ t → _≡_ {A = ℕ} (cond t 2 0) 0 → l .order ≤ lastOrder
     code true p h = absurd (omega arith)
     code false p h = ltb-false lastOrder (l .order) p
-
-pub room-left : (room n : ℕ) → fullRefusal room n ≡ 0 → n ≤ room
-room-left room n e = go (ltb room n) refl e
-  where
-    go : (t : Bool) → ltb room n ≡ t → _≡_ {A = ℕ} (cond t 6 0) 0 → n ≤ room
-    go true p h = absurd (omega arith)
-    go false p h = ltb-false room n p
 
 -- ---- the record with another stack
 module _ (limit : ℕ) (a : Areas) (s : SoundAreas limit a) where
@@ -102,7 +97,7 @@ module _ (limit : ℕ) (a : Areas) (s : SoundAreas limit a) where
           let (p, q) = both-none (layerRefusal l) (fullRefusal (roomIn (a .rows)) (length (toTop (stackOf a) l))) e in
           sound-marked raisedRow (λ r. refl) (λ p r. refl) l (a .placed) (stackOf a) (layer-taken l p .1) (entriesIn a) (entriesIn a) (s .sound) (s .sound .entriesDistinct) (λ id h f. h)
 
-    pub top-step : SoundAreas limit (toTopOf a l .areas) × (meaningOf (toTopOf a l .areas) ≡ eguiAfter limit (MoveToTop l) (meaningOf a))
+    pub top-step : SoundAreas limit (toTopOf a l .areas) × (meaningOf (toTopOf a l .areas) ≡ eguiStep limit (MoveToTop l) (meaningOf a))
     unfolding toTopOf
     top-step = rw (← top-refusal) (go (topRefusal (roomIn (a .rows)) (stackOf a) l) refl)
       where

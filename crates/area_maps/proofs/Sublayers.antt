@@ -16,13 +16,15 @@ use Rattle.stacking.proofs.Layers.{same-layers}
 use Rattle.layer_rows.specs.declared.Row.{Row}
 use Rattle.layer_rows.specs.Rows.{newRow, rowOf, marked}
 use Rattle.layer_queries.specs.Queries.{shownLast, isSublayerRow, isChildRow}
+use Rattle.layer_rows.proofs.Marks.{row-none, row-cons}
 use Rattle.layer_sort.proofs.Meaning.{row-layer}
 use Rattle.layer_table.specs.Layers.{same, childRow, otherParent, withSublayer}
 use Rattle.area_table.specs.Table.{Entry}
 use Rattle.area_maps.specs.Egui.{pushed, placeIn}
 use Rattle.area_maps.specs.Egui as Egui
-use Rattle.area_maps.proofs.Meaning.{layersIn, childIn, meaning, Sound}
-use Rattle.area_maps.proofs.Marked.{row-first, row-none, row-marked, field-same, layers-marked}
+use Rattle.area_maps.specs.Meaning.{layersIn, childIn, meaning}
+use Rattle.area_maps.proofs.Sound.{Sound}
+use Rattle.area_maps.proofs.Marked.{row-marked, field-same, layers-marked}
 use Rattle.area_maps.proofs.Pushed.{and-true, or-false, turned, pushed-still, pushed-self, one-pair}
 use Rattle.area_maps.proofs.Changes.{length-layers, mark-longer, sound-marked, places}
 
@@ -32,7 +34,7 @@ unfolding some
 none-held p [] l h n = ap p (row-none l) ∙ n
 none-held p (r ∷ rows) l h n =
     let (a, b) = or-false (p r) (some p rows) h in
-    ap p (row-first r rows l) ∙ go (isLayer (r .layer) l) a (none-held p rows l b n)
+    ap p (row-cons r rows l) ∙ go (isLayer (r .layer) l) a (none-held p rows l b n)
   where
     go : (t : Bool) → p r ≡ false → p (rowOf rows l) ≡ false → p (cond t r (rowOf rows l)) ≡ false
     go true a b = a

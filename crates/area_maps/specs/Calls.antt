@@ -20,25 +20,25 @@ abbrev pub Calls : Type 0
 Calls = List Call
 
 -- ---- the record
-abbrev pub areasStep : Call → Areas → Areas
-areasStep (SetState layer state) a = stateSet a layer state .areas
-areasStep (MoveToTop layer) a = toTopOf a layer .areas
-areasStep (SetSublayer parent child) a = sublayerSet a parent child .areas
-areasStep EndPass a = passEnded a
-areasStep Reset a = newAreas
+abbrev pub recordStep : Call → Areas → Areas
+recordStep (SetState layer state) a = stateSet a layer state .areas
+recordStep (MoveToTop layer) a = toTopOf a layer .areas
+recordStep (SetSublayer parent child) a = sublayerSet a parent child .areas
+recordStep EndPass a = passEnded a
+recordStep Reset a = newAreas
 
 unfoldable pub recordAfter : Calls → Areas
 recordAfter [] = newAreas
-recordAfter (call ∷ before) = areasStep call (recordAfter before)
+recordAfter (call ∷ before) = recordStep call (recordAfter before)
 
 -- ---- egui, which is not asked a call that is refused; `reset_areas` makes it anew
-abbrev pub eguiAfter : ℕ → Call → Egui.Areas → Egui.Areas
-eguiAfter limit (SetState layer state) m = kept (Egui.setStateRefusal m limit layer state) m (Egui.setState m layer state)
-eguiAfter limit (MoveToTop layer) m = kept (Egui.moveToTopRefusal m limit layer) m (Egui.moveToTop m layer)
-eguiAfter limit (SetSublayer parent child) m = kept (Egui.setSublayerRefusal m limit parent child) m (Egui.setSublayer m parent child)
-eguiAfter limit EndPass m = Egui.endPass m
-eguiAfter limit Reset m = Egui.empty
+abbrev pub eguiStep : ℕ → Call → Egui.Areas → Egui.Areas
+eguiStep limit (SetState layer state) m = kept (Egui.setStateRefusal m limit layer state) m (Egui.setState m layer state)
+eguiStep limit (MoveToTop layer) m = kept (Egui.moveToTopRefusal m limit layer) m (Egui.moveToTop m layer)
+eguiStep limit (SetSublayer parent child) m = kept (Egui.setSublayerRefusal m limit parent child) m (Egui.setSublayer m parent child)
+eguiStep limit EndPass m = Egui.endPass m
+eguiStep limit Reset m = Egui.empty
 
-unfoldable pub egui : ℕ → Calls → Egui.Areas
-egui limit [] = Egui.empty
-egui limit (call ∷ before) = eguiAfter limit call (egui limit before)
+unfoldable pub eguiAfter : ℕ → Calls → Egui.Areas
+eguiAfter limit [] = Egui.empty
+eguiAfter limit (call ∷ before) = eguiStep limit call (eguiAfter limit before)

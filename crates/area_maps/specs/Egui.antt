@@ -1,4 +1,4 @@
--- Areas of memory/mod.rs (lines 1199 to 1440) in its own terms, its maps and sets, in the order of the Rust's text. Definitions only.
+-- Areas of memory/mod.rs (lines 1199 to 1440) in its own terms, its maps, sets and lists. Definitions only.
 use Prim.Native.Nat.{ℕ, suc}
 use mathlib.Core.Bool.{Bool, true, false, cond, not, _&&_, _||_}
 use mathlib.Core.List.{List, [], _∷_, _++_}
@@ -20,8 +20,9 @@ use Rattle.layer_queries.specs.Queries.{orElse, compared}
 use Rattle.areas.specs.declared.Window.{Window}
 use Rattle.layer_table.specs.Layers.{pairRefusal}
 use Rattle.areas.specs.Areas.{hitBy, windowIn}
+use Rattle.areas.specs.Areas.{isInteractable as interactableIn}
 
--- `areas` is a map from ids to states, as its entries; sets of layers say whether they contain one; `order_map` has one more than the index, or 0 for none, which is how
+-- `areas` is a map from ids to states, as its entries; a set of layers is the function that says whether a layer is in it; `order_map` has one more than the index, or 0 for none, which is how
 -- Rust orders an Option; `sublayers parent child` says whether the parent's set contains the child
 pub record Areas : Type 0 where
   pub areas : List Entry
@@ -35,6 +36,10 @@ pub record Areas : Type 0 where
 unfoldable pub empty : Areas
 empty = record { areas = []; last = λ l. false; current = λ l. false; order = []; orderMap = λ l. 0; onTop = λ l. false; sublayers = λ p c. false }
 
+-- Order::Middle
+abbrev pub middle : ℕ
+middle = 1
+
 -- `insert` of a set; a push onto the list, unless it contains the layer
 abbrev pub with : (LayerId → Bool) → LayerId → LayerId → Bool
 with set layer l = isLayer layer l || set l
@@ -42,7 +47,7 @@ with set layer l = isLayer layer l || set l
 abbrev pub pushed : List LayerId → LayerId → List LayerId
 pushed order layer = cond (holds order layer) order (order ++ (layer ∷ []))
 
--- one more than the place of a layer in a list, or 0 where it has none
+-- one more than the place of a layer in a list, where it stands once, or 0 where it has none
 unfoldable pub placeIn : List LayerId → LayerId → ℕ
 placeIn [] layer = 0
 placeIn (l ∷ order) layer = cond (isLayer l layer) 1 (cond (holds order layer) (suc (placeIn order layer)) 0)
@@ -73,9 +78,12 @@ module _ (m : Areas) where
       let order = stacked (m .onTop) (m .sublayers) (m .order) in
       record { areas = m .areas; last = m .current; current = λ l. false; order = order; orderMap = placeIn order; onTop = λ l. false; sublayers = λ p c. false }
 
-  -- ---- the queries (lines 1228 to 1274, 1285 to 1333 and 1371 to 1396)
+  -- ---- the queries (lines 1228 to 1261, 1285 to 1333 and 1371 to 1396)
   unfoldable pub get : ℕ → Held
   get id = getIn (m .areas) id
+
+  abbrev pub isInteractable : LayerId → Bool
+  isInteractable layer = interactableIn (get (layer .id))
 
   abbrev pub isVisible : LayerId → Bool
   isVisible layer = m .last layer || m .current layer
@@ -105,9 +113,9 @@ module _ (m : Areas) where
   childLayers layer = keep (m .sublayers layer) (m .order)
 
   unfoldable pub visibleWindows : List Window
-  visibleWindows = each (λ l. windowIn l (get (l .id))) (keep (λ l. eqb (l .order) 1 && not (isSublayer l)) visibleLayerIds)
+  visibleWindows = each (λ l. windowIn l (get (l .id))) (keep (λ l. eqb (l .order) middle && not (isSublayer l)) visibleLayerIds)
 
-  -- ---- document 01's refusals 6, 8 and 9 over these
+  -- ---- document 01's refusals, 6 and 9 over these
   unfoldable pub setStateRefusal : ℕ → LayerId → AreaState → ℕ
   setStateRefusal limit layer state = lowest (lowest (layerRefusal layer) (stateRefusal state)) (fullRefusal limit (pushed (m .order) layer))
 

@@ -1,2 +1,3 @@
 pub mod Egui
 pub mod Calls
+pub mod Meaning

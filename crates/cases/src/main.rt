@@ -2,6 +2,7 @@
 // A refusal is printed as 'no' and its number.
 mod registry;
 mod searches;
+mod stack;
 
 use area::Align2;
 use area::AreaState;
@@ -274,4 +275,5 @@ fn main() {
     keys();
     searches::searches();
     registry::registry();
+    stack::stack();
 }

@@ -1,4 +1,4 @@
--- What Areas (memory/mod.rs, lines 1246 to 1274 and 1309 to 1396) asks of its layers, on the rows of the stack. What it means in egui's terms is crate `area_maps`; a reader
+-- What Areas (memory/mod.rs, lines 1246 to 1261, 1309 to 1333 and 1371 to 1396) asks of its layers, on the rows of the stack. What it means in egui's terms is crate `area_maps`; a reader
 -- needs only that. Definitions only.
 use Prim.Native.Nat.{ℕ, suc}
 use mathlib.Core.Bool.{Bool, true, cond, not, _&&_, _||_}
@@ -10,7 +10,7 @@ use Rattle.layers.specs.declared.LayerId.{LayerId}
 use Rattle.layer_rows.specs.declared.Row.{Row}
 use Rattle.layer_rows.specs.Rows.{spotIn}
 use Rattle.layer_queries.specs.declared.Listing.{Listing}
-use Rattle.layer_queries.specs.declared.Listing.the-variants.{All, Visible, Windows, Children}
+use Rattle.layer_queries.specs.declared.Listing.the-variants.{All, Visible, Children}
 use Rattle.layer_queries.specs.declared.FlagAnswer.{FlagAnswer}
 use Rattle.layer_queries.specs.declared.FlagAnswer.the-variants as Flag
 use Rattle.layer_queries.specs.declared.LayerAnswer.{LayerAnswer}
@@ -40,10 +40,9 @@ isWindowRow r = isTopRow 1 r && isVisibleRow r
 abbrev pub isListed : Listing → Row → Bool
 isListed All r = true
 isListed Visible r = isVisibleRow r
-isListed Windows r = isWindowRow r
 isListed (Children parent) r = isChildRow parent r
 
--- ---- `compare_order`: by Order, and in one Order by place; a layer without a place is below one with a place
+-- ---- `compare_order`, 0 less, 1 equal, 2 greater: by Order, and in one Order by place; a layer without a place is below one with a place, and two without are equal
 unfoldable pub rankIn : List Row → LayerId → ℕ
 rankIn rows layer = cond (ltb (spotIn rows layer) (length rows)) (suc (spotIn rows layer)) 0
 

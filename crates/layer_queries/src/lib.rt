@@ -32,7 +32,6 @@ pub enum OrderingAnswer {
 pub enum Listing {
     All,
     Visible,
-    Windows,
     Children(LayerId),
 }
 
@@ -86,7 +85,6 @@ pub fn is_listed(listing: Listing, r: Row) -> bool
     match listing {
         Listing::All => true,
         Listing::Visible => is_visible_row(r),
-        Listing::Windows => is_window(r),
         Listing::Children(parent) => is_child(r, parent),
     }
 }

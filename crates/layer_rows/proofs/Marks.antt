@@ -13,6 +13,20 @@ use Rattle.layer_rows.specs.Rows.{heldRows, wordsOf, newRow, rowsOn, spo
 use Rattle.layer_rows.proofs.Rows.{held-length}
 use Rattle.layer_rows.proofs.Table.{placed, on-held, put-on}
 
+-- ---- what is held of a layer: the first row, if it is the layer's, or else what the others hold
+pub row-none : (l : LayerId) → rowOf [] l ≡ newRow l
+unfolding rowOf spotIn
+row-none l = refl
+
+pub row-cons : (r : Row) (rows : List Row) (l : LayerId) → rowOf (r ∷ rows) l ≡ cond (isLayer (r .layer) l) r (rowOf rows l)
+unfolding rowOf spotIn
+row-cons r rows l = go (isLayer (r .layer) l)
+  where
+    go : (t : Bool) → getD (r ∷ rows) (cond t 0 (suc (spotIn rows l))) (newRow l) ≡ cond t r (getD rows (spotIn rows l) (newRow l))
+    go true = refl
+    go false = refl
+
+-- ---- a layer's row changed
 module _ (f : Row → Row) (layer : LayerId) where
   mark-placed : (rows : List Row) → placed (spotIn rows layer) (f (rowOf rows layer)) rows ≡ marked f rows layer
   unfolding marked spotIn rowOf

@@ -7,7 +7,7 @@ use native.Mathlib.Nat.{not-suc-le-zero, le-of-suc-le-suc, zero-add, zero-min, m
 use native.Mathlib.Omega.{arith}
 use lib.ListN.{length, getD, take, drop, length-append, length-drop}
 use lib.Dec.{leb}
-use lib.Seq.{drop-at, drop-cons, drop-drop, take-append-add, drop-append-add}
+use lib.Seq.{drop-cons, drop-drop, take-append-add, drop-append-add}
 use borrow.Author.Tests.{leb-true, leb-false, le-leb, lt-leb}
 use Rattle.tables.specs.Tables.{putAt}
 use Rattle.layer_rows.specs.declared.Row.{Row}
@@ -106,11 +106,15 @@ put-on w (x ∷ rows) (suc k) r h l m =
     (ap (λ (t : List ℕ). wordsOf x ++ t) (put-on (drop 8 w) rows k r (le-of-suc-le-suc h) (simp length-drop (omega arith)) (simp length-drop (omega arith)))
     ∙ sym (on-cons w x (placed k r rows)))
 
--- ---- rows on a table twice, as many each time
-pub on-on : (w : List ℕ) (rows rows' : List Row) → length rows ≡ length rows' → rowsOn (rowsOn w rows) rows' ≡ rowsOn w rows'
+-- ---- rows on a table twice, no fewer the second time
+pub on-more : (w : List ℕ) (rows rows' : List Row) → length rows ≤ length rows' → rowsOn (rowsOn w rows) rows' ≡ rowsOn w rows'
 unfolding rowsOn
-on-on w rows rows' e =
-    ap (λ (t : List ℕ). flat rows' ++ t) (drop-at (flat rows) (drop (8 * length rows) w) (8 * length rows') (flat-length rows ∙ ap (λ (n : ℕ). 8 * n) e) ∙ ap (λ (n : ℕ). drop (8 * n) w) e)
+on-more w rows rows' h =
+    let m = 8 * length rows' - 8 * length rows in
+    let e : 8 * length rows' ≡ length (flat rows) + m = omega (arith, flat-length rows) in
+    let d : 8 * length rows + m ≡ 8 * length rows' = omega arith in
+    ap (λ (t : List ℕ). flat rows' ++ t)
+    (ap (λ (n : ℕ). drop n (flat rows ++ drop (8 * length rows) w)) e ∙ drop-append-add (flat rows) (drop (8 * length rows) w) m ∙ drop-drop m (8 * length rows) w ∙ ap (λ (n : ℕ). drop n w) d)
 
 -- as many are held as there is room for
 pub held-min : (n count : ℕ) (w : List ℕ) → n ≡ min count (length w / 8) → heldRows n w ≡ heldRows count w

@@ -16,7 +16,7 @@ use Rattle.layers.specs.Layers.{layerRefusal}
 use Rattle.layer_rows.specs.declared.Row.{Row}
 use Rattle.layer_rows.specs.Rows.{heldRows, wordsOf, flat, rowsOn, newRow, spotIn, marked}
 use Rattle.layer_rows.proofs.Rows.{of-spot}
-use Rattle.layer_rows.proofs.Table.{on-length, held-on}
+use Rattle.layer_rows.proofs.Table.{on-more, on-length, held-on}
 use Rattle.layer_rows.proofs.Marks.{mark-length, mark-put}
 use Rattle.layer_table.specs.Layers.{roomIn, same, raisedRow, childRow, kept, fullRefusal, toTop, topRefusal, withSublayer, pairRefusal, familyRefusal, sublayerRefusal}
 use Rattle.layer_table.proofs.Counts.{marked-count}
@@ -35,7 +35,7 @@ pub as-before : {A : Type 0} (n : ℕ) (before after : A) → (n ≡ 0 → ⊥) 
 as-before zero before after h = absurd (h refl)
 as-before (suc n) before after h = refl
 
-room-left : (room n : ℕ) → fullRefusal room n ≡ 0 → n ≤ room
+pub room-left : (room n : ℕ) → fullRefusal room n ≡ 0 → n ≤ room
 room-left room n = go (ltb room n) refl
   where
     go : (t : Bool) → ltb room n ≡ t → cond t full none ≡ 0 → n ≤ room
@@ -58,24 +58,6 @@ module _ (count : ℕ) (w : List ℕ) (layer : LayerId) (k n m : ℕ) (e : k ≡
       let (x, free) = both-none a b (sym l ∙ z) in
       let (i, j) = changed raisedRow count w layer k n m e q h (room-left (roomIn w) m (sym d ∙ free)) row s u v here y in
       (sym z ∙ refusal, i, j)
-
--- ---- rows on a table twice, more of them the second time
-flat-length : (rows : List Row) → length (flat rows) ≡ 8 * length rows
-unfolding rowsOn
-flat-length rows =
-    let w : List ℕ = replicate (8 * length rows) 0 in
-    let l : length w ≡ 8 * length rows = length-replicate (8 * length rows) 0 in
-    let d = length-append (flat rows) (drop (8 * length rows) w) in
-    omega (arith, l, d, length-drop (8 * length rows) w, on-length w rows (omega arith))
-
-on-more : (w : List ℕ) (rows rows' : List Row) → length rows ≤ length rows' → rowsOn (rowsOn w rows) rows' ≡ rowsOn w rows'
-unfolding rowsOn
-on-more w rows rows' h =
-    let m = 8 * length rows' - 8 * length rows in
-    let e : 8 * length rows' ≡ length (flat rows) + m = omega (arith, flat-length rows) in
-    let d : 8 * length rows + m ≡ 8 * length rows' = omega arith in
-    ap (λ (t : List ℕ). flat rows' ++ t)
-    (ap (λ (n : ℕ). drop n (flat rows ++ drop (8 * length rows) w)) e ∙ drop-append-add (flat rows) (drop (8 * length rows) w) m ∙ drop-drop m (8 * length rows) w ∙ ap (λ (n : ℕ). drop n w) d)
 
 -- ---- `set_sublayer`
 module _ (count : ℕ) (w : List ℕ) (parent child : LayerId) (r : ℕ) (e : r ≡ sublayerRefusal (roomIn w) (heldRows count w) parent child) where

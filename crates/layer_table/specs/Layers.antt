@@ -21,9 +21,6 @@ roomIn words = length words / 8
 abbrev pub same : Row → Row
 same r = r
 
-abbrev pub shownRow : ℕ → Row → Row
-shownRow area r = record { layer = r .layer; shown = 1; last = r .last; raised = r .raised; parent = r .parent; area = area; key = r .key }
-
 abbrev pub raisedRow : Row → Row
 raisedRow r = record { layer = r .layer; shown = 1; last = r .last; raised = 1; parent = r .parent; area = r .area; key = r .key }
 

@@ -27,7 +27,7 @@ reversed = 4
 abbrev pub badList : ℕ
 badList = 5
 
--- a table has no place left
+-- what is new would pass a table's limit
 abbrev pub full : ℕ
 full = 6
 

@@ -7,3 +7,4 @@ pub mod Layers
 pub mod Sort
 pub mod Rising
 pub mod Stack
+pub mod Moved

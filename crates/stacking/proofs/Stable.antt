@@ -5,7 +5,8 @@ use mathlib.Core.List.{List, [], _∷_, _++_}
 use Prim.Native.Nat.{ℕ, zero, suc}
 use lib.Dec.{eqb, ltb}
 use lib.ListN.{length}
-use Rattle.stacking.specs.Lists.{keep, some, stable, insertBy}
+use Rattle.stacking.specs.Lists.{keep, some, stable}
+use Rattle.stacking.specs.Insertion.{insertBy}
 use Rattle.stacking.proofs.Lists.{keep-append, keep-turned, some-count, All, all-keep}
 use Rattle.stacking.proofs.Insertion.{atLeast, below, stable-above, stable-insert, stable-empty}
 

@@ -6,7 +6,14 @@ ghost use Prim.Native.Nat.{ℕ};
 ghost use lib.Dec.{eqb};
 ghost use Rattle.layers.specs.declared.LayerId.{LayerId};
 ghost use Rattle.stacking.specs.Lists.{keep};
-ghost use Rattle.stacking.specs.Stacking.{isTop, stacked, holds, Distinct, Orders, Pairs, times, Rising};
+ghost use Rattle.stacking.specs.Stacking.{isTop, families, moved, stacked, holds, Distinct, Orders, Pairs, times, Rising};
+
+// The Rust's loop over the parents, in whatever order its map has them, gives each top layer followed by its children.
+pub fn any_order_of_parents()
+    ensures { λ _. ⌜ ((isChild : LayerId → LayerId → Bool) (order parents : List LayerId) → Distinct order → Pairs order isChild → Distinct parents →
+        ((parent child : LayerId) → isChild parent child ≡ true → holds parents parent ≡ true) →
+        moved isChild parents order ≡ families isChild order) ⌝ }
+{}
 
 // It has the layers that there were, each once.
 pub fn same_layers()

@@ -1,8 +1,8 @@
--- Document 01's starred panel situations as one table, those that the crates so far can state: each line is what goes in and what must come out.
+-- Document 01's starred panel situations as one table: each line is what goes in and what must come out.
 -- Definitions only.
 use Prim.Native.Nat.{ℕ, _*_}
 use mathlib.Core.Bool.{Bool, true, false, _&&_, Bool·beq}
-use mathlib.Core.List.{List, [], _∷_}
+use mathlib.Core.List.{List, [], _∷_, _++_}
 use lib.Dec.{eqb}
 use lib.Ieee.{Float, binary32, round, toBits}
 use Rattle.emath.specs.declared.Rect.{Rect}
@@ -11,7 +11,7 @@ use Rattle.area.specs.declared.PosAnswer.{PosAnswer}
 use Rattle.area.specs.declared.PivotPos.the-variants as PivotPos
 use Rattle.area.specs.declared.Size.the-variants as Size
 use Rattle.area.specs.declared.PosAnswer.the-variants as PosAnswer
-use Rattle.area.specs.Area.{leftTop, stateRefusal, posAnswer}
+use Rattle.area.specs.Area.{defaultState, leftTop, stateRefusal, posAnswer}
 use Rattle.input.specs.declared.Event.the-variants.{Key}
 use Rattle.input.specs.declared.Matched.{Matched}
 use Rattle.input.specs.declared.Matched.the-variants as Matched
@@ -25,6 +25,9 @@ use Rattle.layers.specs.declared.LayerId.{LayerId}
 use Rattle.widget_rect.specs.declared.WidgetRect.{WidgetRect}
 use Rattle.widget_table.specs.Table.{Table, newTable, insertOf, listOf}
 use Rattle.search.specs.Search.{findOf}
+use Rattle.layer_queries.specs.declared.Listing.the-variants.{All}
+use Rattle.areas.specs.Areas.{layersOf}
+use Rattle.area_maps.specs.Calls.{Calls, SetState, MoveToTop, SetSublayer, EndPass, recordAfter}
 
 -- n / d and -n / d as f32, and whether two f32 are the same, the sign of a zero too
 abbrev pub plus : ℕ → ℕ → Float
@@ -49,6 +52,8 @@ pub data Situation : Type 0 where
   finds : ℕ → List Candidate → ℕ → Situation
   -- the ids of widgets that are inserted into one layer, the last first, each with whether it goes to the top; the layer's list
   listed : List (ℕ × Bool) → List ℕ → Situation
+  -- calls on the layers (1,5) (0,6) (1,7) (1,8), shown in this order, the last first; the ids of the stack at the end of the pass
+  stacked : Calls → List ℕ → Situation
 
 abbrev pub areaAt : Float → ℕ → Float → Float → ℕ → Float → AreaState
 areaAt px fx w py fy h = record { «pivot_pos» = PivotPos.At px py; pivot = record { x = fx; y = fy }; size = Size.Of w h; interactable = true }
@@ -82,6 +87,25 @@ sameIds (w ∷ list) (id ∷ ids) = eqb (w .id) id && sameIds list ids
 sameIds [] (id ∷ ids) = false
 sameIds (w ∷ list) [] = false
 
+-- the record of 64 layers at the end of a pass with these calls
+abbrev pub middle : ℕ → LayerId
+middle id = record { order = 1; id = id }
+
+abbrev pub background : ℕ → LayerId
+background id = record { order = 0; id = id }
+
+abbrev pub shown : Calls
+shown = SetState (middle 8) defaultState ∷ SetState (middle 7) defaultState ∷ SetState (background 6) defaultState ∷ SetState (middle 5) defaultState ∷ []
+
+abbrev pub stackAfter : Calls → List LayerId
+stackAfter calls = layersOf (recordAfter (EndPass ∷ (calls ++ shown))) All
+
+unfoldable pub sameLayers : List LayerId → List ℕ → Bool
+sameLayers [] [] = true
+sameLayers (l ∷ list) (id ∷ ids) = eqb (l .id) id && sameLayers list ids
+sameLayers [] (id ∷ ids) = false
+sameLayers (l ∷ list) [] = false
+
 unfoldable pub holds : Situation → Bool
 holds (leftTopAt px fx w py fy h x y) = isAt x y (posAnswer (stateRefusal (areaAt px fx w py fy h)) (leftTop (areaAt px fx w py fy h)))
 holds (keyMatches key b) = isMatched b (matchedAnswer (eventRefusal (Key key true false 0)) (matchesOf defaultFilter (Key key true false 0)))
@@ -89,6 +113,7 @@ holds (apart a0 a1 b0 b1 d) = same (rangeDiff (record { min = a0; max = a1 }) (r
 holds (inCone x y k b) = Bool·beq b (isInSearchCone (record { x = x; y = y }) k)
 holds (finds k table id) = eqb (findOf table 0 (pointAt (plus 0 1) (plus 0 1)) k) id
 holds (listed inserts ids) = sameIds (listOf (registered inserts) oneLayer) ids
+holds (stacked calls ids) = sameLayers (stackAfter calls) ids
 
 unfoldable pub allHold : List Situation → Bool
 allHold [] = true
@@ -125,4 +150,8 @@ situations =
     ∷ finds right (record { id = 1; rect = pointAt (plus 5 1) (plus 0 1) } ∷ record { id = 2; rect = pointAt (plus 4 1) (plus 1 1) } ∷ []) 2
     -- widgets 1, 2, 3, then 1 again to the top: list 2, 3, 1
     ∷ listed ((1, true) ∷ (3, false) ∷ (2, false) ∷ (1, false) ∷ []) (2 ∷ 3 ∷ 1 ∷ [])
+    -- layers (1,5) (0,6) (1,7) (1,8), (1,5) raised: the stack is 6, 7, 8, 5
+    ∷ stacked (MoveToTop (middle 5) ∷ []) (6 ∷ 7 ∷ 8 ∷ 5 ∷ [])
+    -- the same, none raised, 5 a child of 8: 6, 7, 8, 5
+    ∷ stacked (SetSublayer (middle 8) (middle 5) ∷ []) (6 ∷ 7 ∷ 8 ∷ 5 ∷ [])
     ∷ []

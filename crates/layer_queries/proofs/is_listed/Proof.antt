@@ -12,12 +12,6 @@ enum-told-2 c = search needs
 is-visible-row-requires : tie.Need-is-visible-row-requires
 is-visible-row-requires c κs = search needs
 
-enum-told-3 : tie.Need-enum-told-3
-enum-told-3 c = search needs
-
-is-window-requires : tie.Need-is-window-requires
-is-window-requires c κs = search needs
-
 enum-known-listing : tie.Need-enum-known-listing
 enum-known-listing c = search needs
 
@@ -33,9 +27,6 @@ returns-2 c = cc
 returns-3 : tie.Need-returns-3
 returns-3 c = cc
 
-returns-4 : tie.Need-returns-4
-returns-4 c = cc
-
 pub is-listed-spec : {M : Type 1} → statement M
 is-listed-spec =
     tie.close
@@ -43,11 +34,8 @@ is-listed-spec =
     enum-told
     enum-told-2
     is-visible-row-requires
-    enum-told-3
-    is-window-requires
     enum-known-listing
     is-child-requires
     returns
     returns-2
-    returns-3
-    returns-4)
+    returns-3)

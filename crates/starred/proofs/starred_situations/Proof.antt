@@ -16,12 +16,19 @@ use Rattle.layers.specs.Layers.{isLayer, layerRefusal}
 use Rattle.tables.specs.Tables.{firstFrom, lastBelow, nearest, putAt, closed, onPart}
 use Rattle.widget_rect.specs.WidgetRect.{joinedOf, widgetRefusal, insertRefusal}
 use Rattle.widget_table.specs.Table.{isIn, indexAt, recordAt, nextIndex, pushWords, pushRects, loweredAt, renumberedRows, renumbered, placeBy, placeOf, roomOf, heldIn, foundIn, listIn, listOf, pushOf, removeOf, putHalf, joinedAt, rowAfter, refusalOf, insertOf, newTable}
-use Rattle.starred.specs.Starred.{registered, sameIds, holds, allHold}
+use Rattle.stacking.specs.Lists.{keep, some, stable}
+use Rattle.layer_rows.specs.Rows.{rowsFrom, rowsOf, heldRows, flat, rowsOn, spotIn, rowOf, marked}
+use Rattle.layer_sort.specs.Sort.{orderKey, familyKey, mapFrom, passOf, byOrder, byFamily, endRows}
+use Rattle.layer_table.specs.Layers.{toTop, topRefusal, withSublayer, familyRefusal, sublayerRefusal}
+use Rattle.area_table.specs.Table as AreaTable
+use Rattle.areas.specs.Areas.{slotOf, setStateRefusal, setStateOf, newAreas, stateSet, toTopOf, sublayerSet, passEnded, layersOf}
+use Rattle.area_maps.specs.Calls.{recordAfter}
+use Rattle.starred.specs.Starred.{registered, sameIds, sameLayers, holds, allHold}
 use Rattle.starred.proofs.starred_situations.Statement.{statement}
 use Rattle.starred.proofs.starred_situations.Tie as tie
 
 returns : tie.Need-returns
-unfolding holds allHold registered sameIds isLayer layerRefusal firstFrom lastBelow nearest putAt closed onPart joinedOf widgetRefusal insertRefusal isIn indexAt recordAt nextIndex pushWords pushRects loweredAt renumberedRows renumbered placeBy placeOf roomOf heldIn foundIn listIn listOf pushOf removeOf putHalf joinedAt rowAfter refusalOf insertOf newTable lowest countOf roundAway roundUi within sideRefusal rectRefusal toFactor leftTop stateRefusal matchesKey maxF minF spanOf centerOf intersectionOf rootOf wholeNearest nearestOf lengthOf normalizedOf dotOf hasSignificantOverlap rangeDiff searchDirection acosAngle isInSearchCone scoreOf judgeOf consideredOf inConeOf goesFirst isBetter isBeaten firstUnbeaten findOf toBits ofBits round size add sub mul div neg lt le eq isNan
+unfolding holds allHold registered sameIds sameLayers keep some stable rowsFrom rowsOf heldRows flat rowsOn spotIn rowOf marked orderKey familyKey mapFrom passOf byOrder byFamily endRows toTop topRefusal withSublayer familyRefusal sublayerRefusal AreaTable.roomOf AreaTable.spotOf AreaTable.putIn slotOf setStateRefusal setStateOf newAreas stateSet toTopOf sublayerSet passEnded layersOf recordAfter isLayer layerRefusal firstFrom lastBelow nearest putAt closed onPart joinedOf widgetRefusal insertRefusal isIn indexAt recordAt nextIndex pushWords pushRects loweredAt renumberedRows renumbered placeBy placeOf roomOf heldIn foundIn listIn listOf pushOf removeOf putHalf joinedAt rowAfter refusalOf insertOf newTable lowest countOf roundAway roundUi within sideRefusal rectRefusal toFactor leftTop stateRefusal matchesKey maxF minF spanOf centerOf intersectionOf rootOf wholeNearest nearestOf lengthOf normalizedOf dotOf hasSignificantOverlap rangeDiff searchDirection acosAngle isInSearchCone scoreOf judgeOf consideredOf inConeOf goesFirst isBetter isBeaten firstUnbeaten findOf toBits ofBits round size add sub mul div neg lt le eq isNan
 returns c = refl
 
 pub starred-situations-spec : {M : Type 1} → statement M

@@ -1,52 +1,49 @@
+-- `areas::lent::layer_id_at` meets its contract. The invariant: above the rows that are left there is none that the point hits. Assumes nothing.
+use native.Mathlib.Omega.{arith}
+use borrow.Author.Needs.{needs}
+use Rattle.area_table.specs.Table.{tableIn}
+use Rattle.layer_rows.specs.Rows.{heldRows}
+use Rattle.layer_queries.proofs.Tops.{Left, all-left, none-left, last-found, less-left}
+use Rattle.areas.specs.Areas.{hitRow, layerIdAt}
 use Rattle.areas.proofs.lent.layer_id_at.Statement.{statement}
 use Rattle.areas.proofs.lent.layer_id_at.Tie as tie
-use Rattle.areas.proofs.lent.layer_id_at.Reads as reads
-use Rattle.areas.proofs.lent.layer_id_at.Lts as lts
-use Rattle.areas.proofs.lent.hit_row.Reads as hit-row-reads
-use Rattle.layer_rows.proofs.held.Reads as held-reads
-use Rattle.layer_rows.proofs.row_at.Reads as row-at-reads
 
 abbrev Inv-loop : tie.InvT-loop
-Inv-loop rows ids codes floats count states pos k₀ k = ?
+Inv-loop rows ids codes floats count states pos k₀ k = Left (hitRow (tableIn ids codes floats) states pos) (heldRows count rows) k
 
 abbrev μ-loop : tie.MeasureT-loop
-μ-loop rows ids codes floats count states pos k₀ k = ?
+μ-loop rows ids codes floats count states pos k₀ k = k
 
--- src/lent.rt:189:9
 held-requires : tie.Need-held-requires Inv-loop μ-loop
-held-requires c κs = ?
+held-requires c κs = search needs
 
--- src/lent.rt:190:5
 loop-holds : tie.Need-loop-holds Inv-loop μ-loop
-loop-holds c = ?
+loop-holds c = all-left _ _ _ _ (c .held .ensures)
 
--- src/lent.rt:191:9
 sub-k : tie.Need-sub-k Inv-loop μ-loop
-sub-k c = ?
+sub-k c = search needs
 
--- src/lent.rt:192:13
 row-at-requires : tie.Need-row-at-requires Inv-loop μ-loop
-row-at-requires c κs = ?
+row-at-requires c κs = search needs
 
--- src/lent.rt:193:12
 hit-row-requires : tie.Need-hit-row-requires Inv-loop μ-loop
-hit-row-requires c κs = ?
+hit-row-requires c κs = search needs
 
--- src/lent.rt:195:13
 returns : tie.Need-returns Inv-loop μ-loop
-returns c = ?
+unfolding layerIdAt
+returns c = search last-found
 
--- src/lent.rt:190:5
 loop-less : tie.Need-loop-less Inv-loop μ-loop
-loop-less c = ?
+loop-less c = omega arith
 
--- src/lent.rt:190:5
 loop-again : tie.Need-loop-again Inv-loop μ-loop
-loop-again c = ?
+loop-again c =
+    let p = c .before .before .before in
+    less-left _ _ _ _ (p .before .loop .inv) (p .loop-test .taken) _ _ (c .before .before .row-at .ensures) _ (c .before .hit-row .ensures) (c .if1 .left)
 
--- src/lent.rt:178:1
 returns-2 : tie.Need-returns-2 Inv-loop μ-loop
-returns-2 c = ?
+unfolding layerIdAt
+returns-2 c = search none-left
 
 pub layer-id-at-spec : {M : Type 1} → statement M
 layer-id-at-spec =

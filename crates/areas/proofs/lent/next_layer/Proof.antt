@@ -1,56 +1,51 @@
+-- `areas::lent::next_layer` meets its contract. The invariant: the rows passed are not listed. Assumes nothing.
+use mathlib.Core.Path.{refl}
+use Prim.Native.Nat.{_-_, _/_, min}
+use native.Mathlib.Omega.{arith}
+use lib.ListN.{length}
+use borrow.Author.Needs.{needs}
+use Rattle.layer_rows.specs.Rows.{heldRows}
+use Rattle.areas.proofs.Listings.{Passed, none-found, one-found, one-passed}
 use Rattle.areas.proofs.lent.next_layer.Statement.{statement}
 use Rattle.areas.proofs.lent.next_layer.Tie as tie
-use Rattle.areas.proofs.lent.next_layer.Reads as reads
-use Rattle.areas.proofs.lent.next_layer.Lts as lts
-use Rattle.layer_queries.proofs.is_listed.Reads as is-listed-reads
-use Rattle.layer_rows.proofs.held.Reads as held-reads
-use Rattle.layer_rows.proofs.row_at.Reads as row-at-reads
 
 abbrev Inv-loop : tie.InvT-loop
-Inv-loop rows count from listing k₀ k = ?
+Inv-loop rows count from listing k₀ k = Passed listing (heldRows count rows) from k
 
 abbrev μ-loop : tie.MeasureT-loop
-μ-loop rows count from listing k₀ k = ?
+μ-loop rows count from listing k₀ k = min count (length rows / 8) - k
 
--- src/lent.rt:208:5
 loop-holds : tie.Need-loop-holds Inv-loop μ-loop
-loop-holds c = ?
+loop-holds c = refl
 
--- src/lent.rt:208:15
 held-requires : tie.Need-held-requires Inv-loop μ-loop
-held-requires c κs = ?
+held-requires c κs = search needs
 
--- src/lent.rt:209:13
 row-at-requires : tie.Need-row-at-requires Inv-loop μ-loop
-row-at-requires c κs = ?
+row-at-requires c κs = search needs
 
--- src/lent.rt:210:12
 is-listed-requires : tie.Need-is-listed-requires Inv-loop μ-loop
-is-listed-requires c κs = ?
+is-listed-requires c κs = search needs
 
--- src/lent.rt:212:34
 add-t12 : tie.Need-add-t12 Inv-loop μ-loop
-add-t12 c = ?
+add-t12 c = omega arith
 
--- src/lent.rt:212:13
 returns : tie.Need-returns Inv-loop μ-loop
-returns c = ?
+returns c = search one-found
 
--- src/lent.rt:214:9
 add-k : tie.Need-add-k Inv-loop μ-loop
-add-k c = ?
+add-k c = omega arith
 
--- src/lent.rt:208:5
 loop-less : tie.Need-loop-less Inv-loop μ-loop
-loop-less c = ?
+loop-less c = omega arith
 
--- src/lent.rt:208:5
 loop-again : tie.Need-loop-again Inv-loop μ-loop
-loop-again c = ?
+loop-again c =
+    let p = c .before .before .before in
+    one-passed _ _ _ _ _ _ (p .before .before .loop .inv) (p .before .held .ensures) (p .if1 .taken) _ _ (c .before .before .row-at .ensures) _ (c .before .is-listed .ensures) (c .if2 .left)
 
--- src/lent.rt:204:1
 returns-2 : tie.Need-returns-2 Inv-loop μ-loop
-returns-2 c = ?
+returns-2 c = search none-found
 
 pub next-layer-spec : {M : Type 1} → statement M
 next-layer-spec =

@@ -1,63 +1,59 @@
+-- `areas::lent::next_window` meets its contract. The invariant: the rows passed are no windows with a state. Assumes nothing.
+use mathlib.Core.Path.{refl}
+use Prim.Native.Nat.{_-_, _/_, min}
+use native.Mathlib.Omega.{arith}
+use lib.ListN.{length}
+use borrow.Author.Needs.{needs}
+use Rattle.area_table.specs.Table.{tableIn}
+use Rattle.layer_rows.specs.Rows.{heldRows}
+use Rattle.areas.proofs.WindowRows.{Passed, none-found, one-found, one-passed}
 use Rattle.areas.proofs.lent.next_window.Statement.{statement}
 use Rattle.areas.proofs.lent.next_window.Tie as tie
-use Rattle.areas.proofs.lent.next_window.Reads as reads
-use Rattle.areas.proofs.lent.next_window.Lts as lts
-use Rattle.areas.proofs.lent.window_state.Reads as window-state-reads
-use Rattle.layer_rows.proofs.held.Reads as held-reads
-use Rattle.layer_rows.proofs.row_at.Reads as row-at-reads
 
 abbrev Inv-loop : tie.InvT-loop
-Inv-loop rows ids codes floats count states from k₀ k = ?
+Inv-loop rows ids codes floats count states from k₀ k = Passed (tableIn ids codes floats) states (heldRows count rows) from k
 
 abbrev μ-loop : tie.MeasureT-loop
-μ-loop rows ids codes floats count states from k₀ k = ?
+μ-loop rows ids codes floats count states from k₀ k = min count (length rows / 8) - k
 
--- src/lent.rt:242:5
 loop-holds : tie.Need-loop-holds Inv-loop μ-loop
-loop-holds c = ?
+loop-holds c = refl
 
--- src/lent.rt:242:15
 held-requires : tie.Need-held-requires Inv-loop μ-loop
-held-requires c κs = ?
+held-requires c κs = search needs
 
--- src/lent.rt:243:13
 row-at-requires : tie.Need-row-at-requires Inv-loop μ-loop
-row-at-requires c κs = ?
+row-at-requires c κs = search needs
 
--- src/lent.rt:244:36
 window-state-requires : tie.Need-window-state-requires Inv-loop μ-loop
-window-state-requires c κs = ?
+window-state-requires c κs = search needs
 
--- src/lent.rt:244:31
 enum-known-s : tie.Need-enum-known-s Inv-loop μ-loop
-enum-known-s c = ?
+enum-known-s c = search needs
 
--- src/lent.rt:246:35
 add-t16 : tie.Need-add-t16 Inv-loop μ-loop
-add-t16 c = ?
+add-t16 c = omega arith
 
--- src/lent.rt:246:13
 returns : tie.Need-returns Inv-loop μ-loop
-returns c = ?
+returns c = search one-found
 
 enum-told : tie.Need-enum-told Inv-loop μ-loop
-enum-told c = ?
+enum-told c = search needs
 
--- src/lent.rt:248:9
 add-k : tie.Need-add-k Inv-loop μ-loop
-add-k c = ?
+add-k c = omega arith
 
--- src/lent.rt:242:5
 loop-less : tie.Need-loop-less Inv-loop μ-loop
-loop-less c = ?
+loop-less c = omega arith
 
--- src/lent.rt:242:5
 loop-again : tie.Need-loop-again Inv-loop μ-loop
-loop-again c = ?
+loop-again c =
+    let f = c .before .before in
+    let p = f .before .before in
+    one-passed _ _ _ _ _ _ _ (p .before .before .loop .inv) (p .before .held .ensures) (p .if1 .taken) _ _ (f .before .row-at .ensures) _ (f .window-state .ensures) (c .enum-told .given .1)
 
--- src/lent.rt:230:1
 returns-2 : tie.Need-returns-2 Inv-loop μ-loop
-returns-2 c = ?
+returns-2 c = search none-found
 
 pub next-window-spec : {M : Type 1} → statement M
 next-window-spec =
