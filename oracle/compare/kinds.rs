@@ -23,6 +23,8 @@ pub const KINDS: &[(&str, usize, Kind)] = &[
     ("widget pages", 0, registry::page),
     ("refused widgets", 0, registry::refused),
     ("areas", 1, tables::areas),
+    ("stacks", 0, tables::stacks),
+    ("full stacks", 0, limits::full_stack),
     ("hits", 0, tables::hits),
     ("popups", 1, tables::popups),
     ("ring", 0, pages::ring),

@@ -40,7 +40,7 @@ fn layers(d: &mut Draw, count: Vec<u64>) -> Vec<String> {
     fill.collect()
 }
 
-fn full_stack(d: &mut Draw) -> Vec<String> {
+pub fn full_stack(d: &mut Draw) -> Vec<String> {
     let ids = near(d, 64);
     let mut lines = layers(d, ids);
     lines.push(d.rng.pick(&["end 0", "layer_ids"]).to_owned());

@@ -87,6 +87,55 @@ pub fn areas(d: &mut Draw) -> Vec<String> {
     mixed_with(d, &calls, 60, "reset_areas", 10)
 }
 
+/// Passes over a few layers that share ids, and at the end whatever can be asked of each of them.
+pub fn stacks(d: &mut Draw) -> Vec<String> {
+    let mut lines = Vec::new();
+    for _ in 0..2 + d.rng.below(5) {
+        let calls = 1 + d.rng.below(8);
+        lines.extend((0..calls).map(|_| stack_call(d)));
+        lines.push(d.rng.pick(&["end 0", "end 0", "layer_ids"]).to_owned());
+    }
+    lines.append(&mut asked_of_all());
+    lines
+}
+
+const ORDERS: [u64; 3] = [0, 1, 2];
+
+const IDS: [u64; 4] = [5, 6, 7, 8];
+
+fn stack_call(d: &mut Draw) -> String {
+    let order = d.rng.pick(&[1, 1, 1, 0, 2]);
+    let [id, other] = [(); 2].map(|()| d.rng.pick(&IDS));
+    match d.rng.below(8) {
+        0..3 => format!("set_state {order} {id} {}", d.state()),
+        3 | 4 => format!("move_to_top {order} {id}"),
+        5 => {
+            let area = area(d);
+            point(d, area)
+        }
+        _ => format!("set_sublayer {order} {id} {order} {other}"),
+    }
+}
+
+fn asked_of_all() -> Vec<String> {
+    let whole = ["layer_ids", "visible_layer_ids", "visible_windows", "count"];
+    let mut lines: Vec<String> = whole.map(str::to_owned).to_vec();
+    lines.extend(IDS.map(|id| format!("get {id}")));
+    lines.extend(ORDERS.map(|order| format!("top_layer_id {order}")));
+    for (order, id) in ORDERS.iter().flat_map(|o| IDS.iter().map(move |i| (o, i))) {
+        let of_layer = [
+            "visible_last_frame",
+            "is_visible",
+            "is_interactable",
+            "parent_layer",
+            "child_layers",
+        ];
+        lines.extend(of_layer.map(|call| format!("{call} {order} {id}")));
+        lines.extend(IDS.map(|other| format!("compare_order {order} {id} {order} {other}")));
+    }
+    lines
+}
+
 /// A few areas over one another, and points at their corners and edges or a step beside them.
 pub fn hits(d: &mut Draw) -> Vec<String> {
     let count = 2 + d.rng.below(5);

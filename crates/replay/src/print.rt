@@ -233,7 +233,9 @@ fn put_windows(out: &mut [u8], at: usize, list: Windows) -> usize {
         if list.count <= i {
             return place;
         }
-        place = put_layer(out, place, windows[i].layer);
+        let window = windows[i];
+        let layer = window.layer;
+        place = put_layer(out, place, layer);
     }
     place
 }
