@@ -120,7 +120,7 @@ pub fn get(ids: &[u64], codes: &[u64], floats: &[f32], states: usize, id: u64) -
     }
 }
 
-// Without a state nothing lets clicks through.
+// A layer without a state is interactable.
 fn lets_interact(held: Held) -> bool
     ensures { λ b. ⌜ b ≡ isInteractable held ⌝ }
 {
@@ -200,7 +200,7 @@ pub fn layer_id_at(
 
 // ---- listings, in stack order
 
-// The first layer of a listing that stands at a row or after it.
+// The first layer of a listing that stands at a row or after it. It refuses no layer: the caller asks for that.
 pub fn next_layer(rows: &[u64], count: usize, from: usize, listing: Listing) -> NextLayer
     ensures { λ r. ⌜ r ≡ nextLayer listing from (drop from (heldRows count (now (rows .entry)))) ⌝ }
 {
@@ -216,7 +216,7 @@ pub fn next_layer(rows: &[u64], count: usize, from: usize, listing: Listing) -> 
     NextLayer::End
 }
 
-// The state of a window's area, which a layer that is no window has not.
+// The state of the row's area, if the row is a window.
 fn window_state(ids: &[u64], codes: &[u64], floats: &[f32], states: usize, r: Row) -> Held
     ensures { λ h. ⌜ h ≡ windowState (tableIn (now (ids .entry)) (now (codes .entry)) (now (floats .entry))) states r ⌝ }
 {

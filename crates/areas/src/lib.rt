@@ -1,4 +1,4 @@
-// `Areas` of memory/mod.rs as a record by value, over the tables in place of crates `layer_rows` and `area_table`.
+// `Areas` of memory/mod.rs as a record by value, over the functions on lent tables.
 ghost use mathlib.Core.Path.{_≡_};
 ghost use Rattle.refusal.specs.Refusal.{lowest, codeRefusal};
 ghost use Rattle.refusal.specs.Limits.{lastOrder};
@@ -40,7 +40,7 @@ pub struct Changed {
     pub areas: Areas,
 }
 
-// Layers in stack order, and how many they are; the places after them are blank. None where the call is refused.
+// Layers in stack order, and how many they are; the places after them are blank. No layers where the call is refused.
 pub struct Layers {
     pub refusal: u64,
     pub count: usize,
@@ -146,7 +146,7 @@ impl Areas {
         Areas::new()
     }
 
-    // How many areas have a state.
+    // egui's `count`: how many areas have a state. (The field `count` is the number of layers.)
     pub fn count(self) -> usize
         ensures { λ r. ⌜ r ≡ heldIn (self .states) (tableIn (self .ids) (self .codes) (self .floats)) ⌝ }
     {

@@ -129,9 +129,10 @@ fn take_chunk(
     let mut i: usize = 0;
     while i < chunk.len() {
         let e = text::find(chunk, i, b'\n');
+        let part = &chunk[i..e];
         let ends = e < chunk.len();
-        now = take_part(&chunk[i..e], ends, line, out, cells, ids, words, rects, now);
         i = e + 1;
+        now = take_part(part, ends, line, out, cells, ids, words, rects, now);
     }
     now
 }

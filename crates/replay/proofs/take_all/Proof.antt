@@ -13,6 +13,9 @@ Inv-loop chunk₀ line₀ out₀ cells₀ ids₀ words₀ rects₀ now₀ counte
 abbrev μ-loop : tie.MeasureT-loop
 μ-loop chunk₀ line₀ out₀ cells₀ ids₀ words₀ rects₀ now₀ counter₀ chunk line out cells ids words rects now counter = 65536 - counter
 
+new-requires : tie.Need-new-requires Inv-loop μ-loop
+new-requires c κs = tt
+
 loop-holds : tie.Need-loop-holds Inv-loop μ-loop
 loop-holds c = omega arith
 
@@ -91,6 +94,7 @@ take-all-spec =
     (tie.spec
     Inv-loop
     μ-loop
+    new-requires
     loop-holds
     read-full-requires
     same-length

@@ -18,20 +18,20 @@ loop-holds c = omega arith
 find-requires : tie.Need-find-requires Inv-loop μ-loop
 find-requires c κs = tt
 
-sub-take-part : tie.Need-sub-take-part Inv-loop μ-loop
-sub-take-part c = omega arith
+sub-part : tie.Need-sub-part Inv-loop μ-loop
+sub-part c = omega arith
 
-part-take-part-start : tie.Need-part-take-part-start Inv-loop μ-loop
-part-take-part-start c = omega arith
+part-part-start : tie.Need-part-part-start Inv-loop μ-loop
+part-part-start c = omega arith
 
-part-take-part-end : tie.Need-part-take-part-end Inv-loop μ-loop
-part-take-part-end c = omega arith
-
-take-part-requires : tie.Need-take-part-requires Inv-loop μ-loop
-take-part-requires c κs = tt
+part-part-end : tie.Need-part-part-end Inv-loop μ-loop
+part-part-end c = omega arith
 
 add-i : tie.Need-add-i Inv-loop μ-loop
 add-i c = omega arith
+
+take-part-requires : tie.Need-take-part-requires Inv-loop μ-loop
+take-part-requires c κs = tt
 
 loop-less : tie.Need-loop-less Inv-loop μ-loop
 loop-less c = omega arith
@@ -68,11 +68,11 @@ take-chunk-spec =
     μ-loop
     loop-holds
     find-requires
-    sub-take-part
-    part-take-part-start
-    part-take-part-end
-    take-part-requires
+    sub-part
+    part-part-start
+    part-part-end
     add-i
+    take-part-requires
     loop-less
     loop-again
     same-length
