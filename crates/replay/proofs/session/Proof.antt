@@ -1,4 +1,4 @@
--- `replay::session` meets its contract. Assumes nothing.
+-- `replay::session` is safe and ends. Assumes nothing.
 use borrow.Author.Needs.{needs}
 use Rattle.replay.proofs.session.Statement.{statement}
 use Rattle.replay.proofs.session.Tie as tie
