@@ -99,6 +99,7 @@ fn compile(b: &Break, out: &Path, worker: usize) -> Result<String, String> {
         "oracle/compare".into(),
         "oracle/search".into(),
         "oracle/registry".into(),
+        "oracle/stack".into(),
     ] {
         run(Command::new("cp").arg("-r").arg(from).arg(&copy))?;
     }
