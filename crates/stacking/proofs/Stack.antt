@@ -103,7 +103,7 @@ module _ (raised : LayerId → Bool) (isChild : LayerId → LayerId → Bool) (o
   same-tops : (l : LayerId) → isTop isChild ranked l ≡ isTop isChild order l
   same-tops l = ap not (some-sorted raised order orders (λ p. isChild p l))
 
-  pairs-ranked : Pairs ranked isChild
+  pub pairs-ranked : Pairs ranked isChild
   pairs-ranked = record { held = λ p c e. same-held p ∙ pairs .held p c e; sameOrder = pairs .sameOrder; oneParent = pairs .oneParent; oneLevel = pairs .oneLevel }
 
   pub stack-layers : Distinct order → (layer : LayerId) → times (stacked raised isChild order) layer ≡ times order layer
