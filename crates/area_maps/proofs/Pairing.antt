@@ -7,7 +7,7 @@ use native.Mathlib.Omega.{arith}
 use lib.Dec.{eqb}
 use lib.ListN.{length}
 use borrow.Author.Tests.{eqb-true}
-use Rattle.refusal.specs.Refusal.{lowest}
+use Rattle.refusal.specs.Refusal.{lowest, kept}
 use Rattle.refusal.proofs.Laws.{both-none}
 use Rattle.layers.specs.declared.LayerId.{LayerId}
 use Rattle.layers.specs.Layers.{isLayer, layerRefusal}
@@ -15,7 +15,7 @@ use Rattle.stacking.specs.Lists.{some}
 use Rattle.layer_rows.specs.declared.Row.{Row}
 use Rattle.layer_rows.specs.Rows.{rowOf, marked}
 use Rattle.layer_queries.specs.Queries.{isSublayerRow, isChildRow}
-use Rattle.layer_table.specs.Layers.{roomIn, kept, same, childRow, fullRefusal, pairRefusal, familyRefusal, otherParent, withSublayer, sublayerRefusal}
+use Rattle.layer_table.specs.Layers.{roomIn, same, childRow, fullRefusal, pairRefusal, familyRefusal, otherParent, withSublayer, sublayerRefusal}
 use Rattle.layer_table.proofs.Changes.{room-left}
 use Rattle.areas.specs.declared.Areas.{Areas}
 use Rattle.areas.specs.Areas.{stackOf, withStack, sublayerSet}

@@ -10,7 +10,7 @@ use lib.Dec.{eqb, ltb}
 use lib.ListN.{length}
 use borrow.Author.Tests.{lt-ltb, le-ltb, ltb-true, ltb-false}
 use Rattle.refusal.specs.Limits.{lastOrder}
-use Rattle.refusal.specs.Refusal.{lowest}
+use Rattle.refusal.specs.Refusal.{lowest, kept}
 use Rattle.refusal.proofs.Laws.{both-none}
 use Rattle.area.specs.declared.AreaState.{AreaState}
 use Rattle.area.specs.Area.{stateRefusal}
@@ -22,7 +22,7 @@ use Rattle.layer_rows.specs.Rows.{heldRows, rowsOn, rowOf, spotIn, marked}
 use Rattle.layer_rows.proofs.Rows.{held-length}
 use Rattle.layer_rows.proofs.Table.{held-on, on-length}
 use Rattle.layer_rows.proofs.Marks.{mark-length, spot-most}
-use Rattle.layer_table.specs.Layers.{roomIn, kept}
+use Rattle.layer_table.specs.Layers.{roomIn}
 use Rattle.area_table.specs.declared.Held.{Held}
 use Rattle.area_table.specs.declared.Held.the-variants.{Vacant, Occupied}
 use Rattle.area_table.specs.Table.{Entry, roomOf, heldIn, spotOf, putIn, entriesOf, getIn, insertIn, elem}

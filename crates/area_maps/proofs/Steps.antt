@@ -8,7 +8,7 @@ use lib.Dec.{eqb, ltb}
 use lib.ListN.{length, take}
 use borrow.Author.Tests.{ltb-true, ltb-false, lt-ltb, le-ltb, eqb-true}
 use Rattle.refusal.specs.Limits.{lastOrder}
-use Rattle.refusal.specs.Refusal.{none, full, lowest, idRefusal, codeRefusal}
+use Rattle.refusal.specs.Refusal.{none, full, lowest, idRefusal, codeRefusal, kept}
 use Rattle.refusal.proofs.Laws.{both-none}
 use Rattle.area.specs.declared.AreaState.{AreaState}
 use Rattle.area.specs.Area.{stateRefusal}
@@ -21,7 +21,7 @@ use Rattle.layer_rows.proofs.Table.{held-on, on-length}
 use Rattle.layer_sort.specs.Sort.{endRows}
 use Rattle.layer_sort.proofs.Meaning.{ended-length}
 use Rattle.layer_rows.proofs.Marks.{mark-length}
-use Rattle.layer_table.specs.Layers.{roomIn, kept, same, raisedRow, childRow, fullRefusal, pairRefusal, familyRefusal, otherParent, toTop, topRefusal, withSublayer, sublayerRefusal}
+use Rattle.layer_table.specs.Layers.{roomIn, same, raisedRow, childRow, fullRefusal, pairRefusal, familyRefusal, otherParent, toTop, topRefusal, withSublayer, sublayerRefusal}
 use Rattle.layer_table.proofs.Changes.{room-left}
 use Rattle.area_table.specs.Table.{Entry}
 use Rattle.areas.specs.declared.Areas.{Areas}

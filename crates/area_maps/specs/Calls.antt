@@ -1,9 +1,9 @@
 -- The calls that change Areas, in a list, and what they leave: of the record by value, and of egui's maps and sets. Definitions only.
 use Prim.Native.Nat.{ℕ}
 use mathlib.Core.List.{List, [], _∷_}
+use Rattle.refusal.specs.Refusal.{kept}
 use Rattle.area.specs.declared.AreaState.{AreaState}
 use Rattle.layers.specs.declared.LayerId.{LayerId}
-use Rattle.layer_table.specs.Layers.{kept}
 use Rattle.areas.specs.declared.Areas.{Areas}
 use Rattle.areas.specs.Areas.{newAreas, stateSet, toTopOf, sublayerSet, passEnded}
 use Rattle.area_maps.specs.Egui as Egui

@@ -3,12 +3,12 @@ use mathlib.Core.Path.{_≡_, refl, sym, _∙_}
 use mathlib.Core.List.{List}
 use Prim.Native.Nat.{ℕ, zero, suc, _/_, min}
 use lib.ListN.{length}
+use Rattle.refusal.specs.Refusal.{kept}
 use Rattle.layer_rows.specs.declared.Row.{Row}
 use Rattle.layer_rows.specs.Rows.{rowsOn}
 use Rattle.layer_rows.proofs.Rows.{held-length}
 use Rattle.layer_sort.specs.Sort.{endRows}
 use Rattle.layer_sort.proofs.Meaning.{ended-length}
-use Rattle.layer_table.specs.Layers.{kept}
 use Rattle.areas.specs.declared.Areas.{Areas}
 use Rattle.areas.specs.Areas.{stackOf, changedTo, passEnded}
 

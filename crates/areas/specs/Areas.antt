@@ -7,7 +7,7 @@ use lib.Dec.{ltb}
 use lib.Ieee.{Float, binary32, ofBits}
 use lib.ListN.{length, replicate}
 use Rattle.refusal.specs.Limits.{layers}
-use Rattle.refusal.specs.Refusal.{none, full, lowest, idRefusal, answered}
+use Rattle.refusal.specs.Refusal.{none, full, lowest, idRefusal, answered, kept}
 use Rattle.emath.specs.declared.Pos2.{Pos2}
 use Rattle.emath.specs.Rect.{containsPos}
 use Rattle.area.specs.declared.AreaState.{AreaState}
@@ -24,7 +24,7 @@ use Rattle.layer_queries.specs.declared.LayerAnswer.{LayerAnswer}
 use Rattle.layer_queries.specs.declared.Listing.{Listing}
 use Rattle.layer_queries.specs.declared.Listing.the-variants.{Children}
 use Rattle.layer_queries.specs.Queries.{isVisibleRow, isWindowRow, isListed, lastOf, flagAnswer}
-use Rattle.layer_table.specs.Layers.{roomIn, kept, toTop, topRefusal, withSublayer, sublayerRefusal}
+use Rattle.layer_table.specs.Layers.{roomIn, toTop, topRefusal, withSublayer, sublayerRefusal}
 use Rattle.area_table.specs.declared.Held.{Held}
 use Rattle.area_table.specs.declared.Held.the-variants.{Vacant, Occupied}
 use Rattle.area_table.specs.Table.{Table, tableIn, roomOf, heldIn, spotOf, heldOf, putIn}

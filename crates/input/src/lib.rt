@@ -38,6 +38,7 @@ pub enum Event {
 }
 
 // Which keys the focused widget keeps for itself.
+#[repr(C)]
 pub struct EventFilter {
     pub tab: bool,
     pub horizontal_arrows: bool,

@@ -8,7 +8,7 @@ use lib.Dec.{ltb}
 use lib.ListN.{length, getD, drop, replicate, length-append, length-drop, length-replicate}
 use lib.Seq.{drop-drop, drop-append-add}
 use borrow.Author.Tests.{ltb-false}
-use Rattle.refusal.specs.Refusal.{full, none, lowest}
+use Rattle.refusal.specs.Refusal.{full, none, lowest, kept}
 use Rattle.refusal.proofs.Laws.{both-none}
 use Rattle.tables.specs.Tables.{putAt}
 use Rattle.layers.specs.declared.LayerId.{LayerId}
@@ -18,7 +18,7 @@ use Rattle.layer_rows.specs.Rows.{heldRows, wordsOf, flat, rowsOn, newRow, spot
 use Rattle.layer_rows.proofs.Rows.{of-spot}
 use Rattle.layer_rows.proofs.Table.{on-more, on-length, held-on}
 use Rattle.layer_rows.proofs.Marks.{mark-length, mark-put}
-use Rattle.layer_table.specs.Layers.{roomIn, same, raisedRow, childRow, kept, fullRefusal, toTop, topRefusal, withSublayer, pairRefusal, familyRefusal, sublayerRefusal}
+use Rattle.layer_table.specs.Layers.{roomIn, same, raisedRow, childRow, fullRefusal, toTop, topRefusal, withSublayer, pairRefusal, familyRefusal, sublayerRefusal}
 use Rattle.layer_table.proofs.Counts.{marked-count}
 
 -- ---- the layer's row k, changed by f, is put in the table

@@ -27,11 +27,6 @@ raisedRow r = record { layer = r .layer; shown = 1; last = r .last; raised = 1; 
 abbrev pub childRow : ℕ → Row → Row
 childRow parent r = record { layer = r .layer; shown = r .shown; last = r .last; raised = r .raised; parent = parent; area = r .area; key = r .key }
 
--- what was there where a call is refused
-abbrev pub kept : {A : Type 0} → ℕ → A → A → A
-kept zero before after = after
-kept (suc n) before after = before
-
 abbrev pub fullRefusal : ℕ → ℕ → ℕ
 fullRefusal room n = cond (ltb room n) full none
 

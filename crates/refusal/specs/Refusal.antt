@@ -59,3 +59,8 @@ codeRefusal code last = cond (ltb last code) badCode none
 abbrev pub answered : {A R : Type 0} → (A → R) → (ℕ → R) → ℕ → A → R
 answered is refused zero a = is a
 answered is refused (suc n) a = refused (suc n)
+
+-- what a call leaves: where it is refused what was there before
+abbrev pub kept : {A : Type 0} → ℕ → A → A → A
+kept zero before after = after
+kept (suc n) before after = before

@@ -11,7 +11,7 @@ use lib.Dec.{ltb, eqb}
 use lib.ListN.{length, getD, drop, drop-of-length-le, length-drop}
 use lib.Seq.{drop-cons, getD-drop}
 use borrow.Author.Tests.{ltb-true, eqb-true, eq-eqb, ne-eqb, lt-ltb, le-ltb}
-use Rattle.tables.specs.Tables.{firstFrom, lastBelow, orElse, nearest}
+use Rattle.tables.specs.Tables.{firstFrom, lastBelow, orElse, nearest, after}
 use Rattle.tables.specs.declared.Found.{Found}
 use Rattle.tables.specs.declared.Found.the-variants.{At, Nothing}
 
@@ -87,18 +87,18 @@ module _ (xs : List ℕ) (x : ℕ) where
 
 -- ---- what is found below n stands there, and else it stands nowhere below n
 module _ (xs : List ℕ) (x : ℕ) where
-  last-at : (n k : ℕ) → lastBelow xs n x ≡ At k → (k < length xs) × (getD xs k 0 ≡ x)
+  pub last-at : (n k : ℕ) → lastBelow xs n x ≡ At k → (k < n) × (k < length xs) × (getD xs k 0 ≡ x)
   unfolding lastBelow
   last-at zero k e = let z : _≡_ {A = ℕ} 0 1 = cc in absurd (omega arith)
   last-at (suc n) k e = go (ltb n (length xs)) (eqb (getD xs n 0) x) refl refl e (last-at n k)
     where
       go : (s t : Bool) → ltb n (length xs) ≡ s → eqb (getD xs n 0) x ≡ t → cond (s && t) (At n) (lastBelow xs n x) ≡ At k
-          → (lastBelow xs n x ≡ At k → (k < length xs) × (getD xs k 0 ≡ x)) → (k < length xs) × (getD xs k 0 ≡ x)
-      go true true p q e rest = let r : n ≡ k = cc in rw (← r) (ltb-true n (length xs) p, eqb-true (getD xs n 0) x q)
-      go true false p q e rest = rest e
-      go false t p q e rest = rest e
+          → (lastBelow xs n x ≡ At k → (k < n) × (k < length xs) × (getD xs k 0 ≡ x)) → (k < suc n) × (k < length xs) × (getD xs k 0 ≡ x)
+      go true true p q e rest = let r : n ≡ k = cc in rw (← r) (omega arith, ltb-true n (length xs) p, eqb-true (getD xs n 0) x q)
+      go true false p q e rest = let (l, h, q) = rest e in (omega arith, h, q)
+      go false t p q e rest = let (l, h, q) = rest e in (omega arith, h, q)
 
-  last-none : (n i : ℕ) → lastBelow xs n x ≡ Nothing → i < n → i < length xs → (getD xs i 0 ≡ x → ⊥)
+  pub last-none : (n i : ℕ) → lastBelow xs n x ≡ Nothing → i < n → i < length xs → (getD xs i 0 ≡ x → ⊥)
   unfolding lastBelow
   last-none zero i e l h q = not-suc-le-zero l
   last-none (suc n) i e l h q = go (ltb n (length xs)) (eqb (getD xs n 0) x) refl refl e (ℕ-discrete i n) (last-none n i)
@@ -111,33 +111,69 @@ module _ (xs : List ℕ) (x : ℕ) where
       go false t p r e (yes d) rest = let z : _≡_ {A = Bool} true false = sym (lt-ltb n (length xs) (rw d at h)) ∙ p in true≢false z
       go false t p r e (no d) rest = rest e (omega arith) h q
 
--- ---- the two ways of `find`; what it finds stands there, and else it stands nowhere
-module _ (xs : List ℕ) (n x : ℕ) where
-  pub near-below : (f : Found) (k : ℕ) → f ≡ lastBelow xs n x → f ≡ At k → At k ≡ nearest xs n x
+-- ---- the two ways of `find` and of `find_after`
+module _ (xs : List ℕ) (n x : ℕ) (f g : Found) where
+  pub near-below : (k : ℕ) → f ≡ lastBelow xs n x → f ≡ At k → At k ≡ nearest xs n x
   unfolding nearest
-  near-below f k p e = rw (← p, e)
+  near-below k p e = rw (← p, e)
 
-  pub near-from : (f g : Found) → f ≡ lastBelow xs n x → f ≡ Nothing → g ≡ firstFrom n (drop n xs) x → g ≡ nearest xs n x
+  pub near-from : f ≡ lastBelow xs n x → f ≡ Nothing → g ≡ firstFrom n (drop n xs) x → g ≡ nearest xs n x
   unfolding nearest
-  near-from f g p e q = rw (← p, e, q)
+  near-from p e q = rw (← p, e, q)
+
+  pub after-from : (k : ℕ) → f ≡ firstFrom n (drop n xs) x → f ≡ At k → At k ≡ after xs n x
+  unfolding after
+  after-from k p e = rw (← p, e)
+
+  pub after-below : f ≡ firstFrom n (drop n xs) x → f ≡ Nothing → g ≡ lastBelow xs n x → g ≡ after xs n x
+  unfolding after
+  after-below p e q = rw (← p, e, q)
+
+-- ---- what either finds stands there, and else it stands nowhere
+module _ (xs : List ℕ) (n x : ℕ) where
+  found-from : (k : ℕ) → firstFrom n (drop n xs) x ≡ At k → (k < length xs) × (getD xs k 0 ≡ x)
+  found-from k e =
+      let (m, q, h, r) = from-at n (drop n xs) x k e in
+      rw q (omega (arith, length-drop n xs), rw getD-drop at r)
+
+  -- it is neither below n nor from n on
+  nowhere : (i : ℕ) → lastBelow xs n x ≡ Nothing → firstFrom n (drop n xs) x ≡ Nothing → i < length xs → (getD xs i 0 ≡ x → ⊥)
+  nowhere i p e h q = go (decLt i n)
+    where
+      go : Dec (i < n) → ⊥
+      go (yes d) = last-none xs x n i p d h q
+      go (no d) =
+          let a : n + (i - n) ≡ i = omega arith in
+          from-none n (drop n xs) x (i - n) e (omega (arith, length-drop n xs)) (getD-drop n xs (i - n) 0 ∙ rw a q)
 
   pub nearest-at : (k : ℕ) → nearest xs n x ≡ At k → (k < length xs) × (getD xs k 0 ≡ x)
   unfolding nearest
   nearest-at k e = go (lastBelow xs n x) refl e
     where
       go : (f : Found) → lastBelow xs n x ≡ f → orElse f (firstFrom n (drop n xs) x) ≡ At k → (k < length xs) × (getD xs k 0 ≡ x)
-      go (At j) p e = last-at xs x n k (p ∙ e)
-      go Nothing p e =
-          let (m, q, h, r) = from-at n (drop n xs) x k e in
-          rw q (omega (arith, length-drop n xs), rw getD-drop at r)
+      go (At j) p e = let (_, h, q) = last-at xs x n k (p ∙ e) in (h, q)
+      go Nothing p e = found-from k e
 
   pub nearest-none : (i : ℕ) → nearest xs n x ≡ Nothing → i < length xs → (getD xs i 0 ≡ x → ⊥)
   unfolding nearest
-  nearest-none i e h q = go (lastBelow xs n x) refl e (decLt i n)
+  nearest-none i e h q = go (lastBelow xs n x) refl e
     where
-      go : (f : Found) → lastBelow xs n x ≡ f → orElse f (firstFrom n (drop n xs) x) ≡ Nothing → Dec (i < n) → ⊥
-      go (At j) p e d = let z : _≡_ {A = ℕ} 0 1 = cc in omega arith
-      go Nothing p e (yes d) = last-none xs x n i p d h q
-      go Nothing p e (no d) =
-          let a : n + (i - n) ≡ i = omega arith in
-          from-none n (drop n xs) x (i - n) e (omega (arith, length-drop n xs)) (getD-drop n xs (i - n) 0 ∙ rw a q)
+      go : (f : Found) → lastBelow xs n x ≡ f → orElse f (firstFrom n (drop n xs) x) ≡ Nothing → ⊥
+      go (At j) p e = let z : _≡_ {A = ℕ} 0 1 = cc in omega arith
+      go Nothing p e = nowhere i p e h q
+
+  pub after-at : (k : ℕ) → after xs n x ≡ At k → (k < length xs) × (getD xs k 0 ≡ x)
+  unfolding after
+  after-at k e = go (firstFrom n (drop n xs) x) refl e
+    where
+      go : (f : Found) → firstFrom n (drop n xs) x ≡ f → orElse f (lastBelow xs n x) ≡ At k → (k < length xs) × (getD xs k 0 ≡ x)
+      go (At j) p e = found-from k (p ∙ e)
+      go Nothing p e = let (_, h, q) = last-at xs x n k e in (h, q)
+
+  pub after-none : (i : ℕ) → after xs n x ≡ Nothing → i < length xs → (getD xs i 0 ≡ x → ⊥)
+  unfolding after
+  after-none i e h q = go (firstFrom n (drop n xs) x) refl e
+    where
+      go : (f : Found) → firstFrom n (drop n xs) x ≡ f → orElse f (lastBelow xs n x) ≡ Nothing → ⊥
+      go (At j) p e = let z : _≡_ {A = ℕ} 0 1 = cc in omega arith
+      go Nothing p e = nowhere i e p h q

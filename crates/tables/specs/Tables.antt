@@ -25,6 +25,10 @@ orElse Nothing f = f
 unfoldable pub nearest : List ℕ → ℕ → ℕ → Found
 nearest xs n x = orElse (lastBelow xs n x) (firstFrom n (drop n xs) x)
 
+-- ---- the first place of a number from n on, or else the last below n
+unfoldable pub after : List ℕ → ℕ → ℕ → Found
+after xs n x = orElse (firstFrom n (drop n xs) x) (lastBelow xs n x)
+
 module _ {A : Type 0} where
   -- ---- a row put at a place, where all of it fits
   unfoldable pub putAt : List A → ℕ → List A → List A

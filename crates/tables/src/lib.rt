@@ -3,7 +3,7 @@ ghost use mathlib.Core.Path.{_≡_};
 ghost use Prim.Native.Nat.{_+_, min};
 ghost use lib.Dec.{leb};
 ghost use lib.ListN.{length, getD, drop, set, replicate};
-ghost use Rattle.tables.specs.Tables.{firstFrom, lastBelow, nearest, putAt, closed};
+ghost use Rattle.tables.specs.Tables.{firstFrom, lastBelow, nearest, after, putAt, closed};
 
 pub enum Found {
     At(usize),
@@ -17,7 +17,7 @@ pub fn fewer(a: usize, b: usize) -> usize
 }
 
 // The last place of x below n.
-fn find_below(xs: &[u64], n: usize, x: u64) -> Found
+pub fn find_below(xs: &[u64], n: usize, x: u64) -> Found
     ensures { λ r. ⌜ r ≡ lastBelow (now (xs .entry)) n x ⌝ }
 {
     let mut i = fewer(n, xs.len());
@@ -31,7 +31,7 @@ fn find_below(xs: &[u64], n: usize, x: u64) -> Found
 }
 
 // The first place of x from n on.
-fn find_from(xs: &[u64], n: usize, x: u64) -> Found
+pub fn find_from(xs: &[u64], n: usize, x: u64) -> Found
     ensures { λ r. ⌜ r ≡ firstFrom n (drop n (now (xs .entry))) x ⌝ }
 {
     let mut i = n;
@@ -51,6 +51,16 @@ pub fn find(xs: &[u64], n: usize, x: u64) -> Found
     match find_below(xs, n, x) {
         Found::At(i) => Found::At(i),
         Found::Nothing => find_from(xs, n, x),
+    }
+}
+
+// The first place of x from n on, or else the last below n: soon found where n is little below it.
+pub fn find_after(xs: &[u64], n: usize, x: u64) -> Found
+    ensures { λ r. ⌜ r ≡ after (now (xs .entry)) n x ⌝ }
+{
+    match find_from(xs, n, x) {
+        Found::At(i) => Found::At(i),
+        Found::Nothing => find_below(xs, n, x),
     }
 }
 
