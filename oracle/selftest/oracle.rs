@@ -100,6 +100,7 @@ fn compile(b: &Break, out: &Path, worker: usize) -> Result<String, String> {
         "oracle/search".into(),
         "oracle/registry".into(),
         "oracle/stack".into(),
+        "oracle/focus".into(),
     ] {
         run(Command::new("cp").arg("-r").arg(from).arg(&copy))?;
     }

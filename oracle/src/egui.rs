@@ -18,7 +18,7 @@ pub mod memory {
     egui!("memory");
 
     mod view;
-    pub use view::Search;
+    pub use view::{Passes, Search};
 }
 
 pub mod widget_rect {

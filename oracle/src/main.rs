@@ -7,6 +7,7 @@
 //!     oracle times       how long it takes
 //!     oracle inserts     how long an insert into egui's registry takes (oracle/registry has the port's side)
 //!     oracle passes      how long the calls of egui's stack take (oracle/stack has the port's side)
+//!     oracle focuses     how long the calls of egui's focus take (oracle/focus has the port's side)
 #![allow(dead_code, unexpected_cfgs, unused_imports)]
 extern crate alloc;
 
@@ -16,11 +17,14 @@ mod clock;
 mod convert;
 mod egui;
 mod emath;
+mod focuses;
 mod hypot;
 mod inserts;
 mod line;
 #[path = "../registry/pages.rs"]
 mod pages;
+#[path = "../focus/pass.rs"]
+mod pass;
 #[path = "../stack/passes.rs"]
 mod passes;
 mod refusals;
@@ -74,7 +78,11 @@ fn main() -> std::io::Result<()> {
             stacks::times();
             Ok(())
         }
-        _ => panic!("usage: oracle [falling | hypot N | searches N SEED | times | inserts | passes]"),
+        ["focuses"] => {
+            focuses::times();
+            Ok(())
+        }
+        _ => panic!("usage: oracle [falling | hypot N | searches N SEED | times | inserts | passes | focuses]"),
     }
 }
 

@@ -2,8 +2,9 @@
 use super::{Areas, Focus, FocusDirection, FocusWidget, Memory};
 use crate::emath::{Rect, pos2};
 use crate::line::Line;
-use crate::stand_ins::IdMap;
-use crate::{Id, LayerId};
+use crate::pass::Side;
+use crate::stand_ins::{IdMap, RawInput, ViewportId};
+use crate::{Event, Id, LayerId};
 use std::collections::BTreeMap;
 
 impl Memory {
@@ -80,13 +81,7 @@ const DIRECTIONS: [FocusDirection; 7] = [
 impl Search {
     /// Fields with their left, top, right and bottom edges, one of them focused.
     pub fn new(fields: impl Iterator<Item = (u64, [f32; 4])>, focused: u64) -> Self {
-        let rects: IdMap<Rect> = fields
-            .map(|(id, [left, top, right, bottom])| {
-                let min = pos2(left, top);
-                let max = pos2(right, bottom);
-                (id_of(id), Rect { min, max })
-            })
-            .collect();
+        let rects: IdMap<Rect> = fields.map(entry).collect();
         let focus = Focus {
             focused_widget: Some(FocusWidget::new(id_of(focused))),
             focus_widgets_cache: rects.clone(),
@@ -146,4 +141,69 @@ impl Areas {
             .flag(self.wants_to_be_on_top.contains(&layer))
             .maybe(self.parent_layer(layer), Line::layer)
     }
+}
+
+/// A focus record by itself, with what its calls are given, for oracle/focus.
+pub struct Passes {
+    focus: Focus,
+    fields: Vec<(Id, Rect)>,
+    used: IdMap<Rect>,
+    made_anew: bool,
+    events: RawInput,
+    no_events: RawInput,
+}
+
+impl Passes {
+    pub fn new(fields: Vec<(u64, [f32; 4])>, events: Vec<Event>, made_anew: bool) -> Self {
+        let fields: Vec<(Id, Rect)> = fields.into_iter().map(entry).collect();
+        let viewport_id = ViewportId::default();
+        Self {
+            focus: Focus::default(),
+            used: fields.iter().copied().collect(),
+            fields,
+            made_anew,
+            events: RawInput {
+                viewport_id,
+                events,
+            },
+            no_events: RawInput {
+                viewport_id,
+                events: Vec::new(),
+            },
+        }
+    }
+}
+
+impl Side for Passes {
+    fn begin(&mut self, with_events: bool) -> u64 {
+        let input = if with_events { &self.events } else { &self.no_events };
+        self.focus.begin_pass(input);
+        0
+    }
+
+    fn interests(&mut self) -> u64 {
+        for &(id, _) in &self.fields {
+            self.focus.interested_in_focus(id);
+        }
+        0
+    }
+
+    fn end(&mut self, turn: u64, arrow: bool) -> u64 {
+        let (middle, _) = self.fields[self.fields.len() / 2];
+        self.focus.focused_widget = Some(FocusWidget::new(middle));
+        self.focus.focus_direction = DIRECTIONS[if arrow { turn as usize % 4 } else { 6 }];
+        if self.made_anew {
+            let used: IdMap<Rect> = self.fields.iter().copied().collect();
+            self.focus.end_pass(&used);
+        } else {
+            self.focus.end_pass(&self.used);
+        }
+        0
+    }
+}
+
+fn entry((id, [left, top, right, bottom]): (u64, [f32; 4])) -> (Id, Rect) {
+    let min = pos2(left, top);
+    let max = pos2(right, bottom);
+    (id_of(id), Rect { min, max })
 }

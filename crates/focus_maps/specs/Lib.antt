@@ -1,0 +1,2 @@
+pub mod Egui
+pub mod Calls

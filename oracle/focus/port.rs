@@ -1,0 +1,419 @@
+//! The port's focus (crates/board_focus and crates/focus, static libraries): its core over lent tables, the record by value, and the thin forms that borrow it.
+
+pub const CACHED: usize = 256;
+pub const EVENTS: usize = 64;
+pub const USED: usize = 256;
+
+#[repr(C)]
+#[derive(Clone, Copy, Default, PartialEq)]
+pub struct LayerId {
+    pub order: u64,
+    pub id: u64,
+}
+
+#[repr(C)]
+#[derive(Clone, Copy, Default)]
+pub struct EventFilter {
+    pub tab: bool,
+    pub horizontal_arrows: bool,
+    pub vertical_arrows: bool,
+    pub escape: bool,
+}
+
+#[repr(C)]
+#[derive(Clone, Copy)]
+pub struct Nav {
+    pub focused: u64,
+    pub filter: EventFilter,
+    pub give_to_next: bool,
+    pub id_previous_frame: u64,
+    pub id_two_frames_ago: u64,
+    pub id_next_frame: u64,
+    pub last_interested: u64,
+    pub focus_direction: u64,
+    pub top_modal_layer: LayerId,
+    pub top_modal_layer_current_frame: LayerId,
+}
+
+#[repr(C)]
+pub struct Changed {
+    pub refusal: u64,
+    pub nav: Nav,
+}
+
+#[repr(C)]
+pub struct Interested {
+    pub refusal: u64,
+    pub nav: Nav,
+    pub count: usize,
+    pub slot: usize,
+}
+
+/// Of `ignore_focus` and `end_pass`.
+#[repr(C)]
+pub struct Counted {
+    pub refusal: u64,
+    pub nav: Nav,
+    pub count: usize,
+}
+
+#[repr(C)]
+#[derive(Clone, Copy)]
+pub struct Focus {
+    pub nav: Nav,
+    pub ids: [u64; CACHED],
+    pub rects: [f32; 4 * CACHED],
+    pub count: usize,
+    pub slot: usize,
+}
+
+#[repr(C)]
+#[derive(Clone, Copy)]
+pub struct Events {
+    pub words: [u64; 4 * EVENTS],
+    pub count: usize,
+}
+
+#[repr(C)]
+#[derive(Clone, Copy)]
+pub struct Used {
+    pub ids: [u64; USED],
+    pub corners: [f32; 4 * USED],
+    pub count: usize,
+}
+
+#[repr(C)]
+pub struct Done {
+    pub focus: Focus,
+    pub refusal: u64,
+}
+
+#[link(name = "board_focus", kind = "static")]
+unsafe extern "C" {
+    fn jaturemi_begin_pass(
+        nav: Nav,
+        ids: *const u64,
+        ids_len: usize,
+        rects: *const f32,
+        rects_len: usize,
+        count: usize,
+        events: *const u64,
+        events_len: usize,
+    ) -> Changed;
+
+    fn jaturemi_interested_in_focus(
+        nav: Nav,
+        ids: *mut u64,
+        ids_len: usize,
+        rects: *mut f32,
+        rects_len: usize,
+        count: usize,
+        slot: usize,
+        id: u64,
+    ) -> Interested;
+
+    fn jaturemi_interested_in_all(
+        nav: Nav,
+        ids: *mut u64,
+        ids_len: usize,
+        rects: *mut f32,
+        rects_len: usize,
+        count: usize,
+        slot: usize,
+        page: *const u64,
+        page_len: usize,
+    ) -> Interested;
+
+    fn jaturemi_ignore_focus(
+        nav: Nav,
+        ids: *mut u64,
+        ids_len: usize,
+        rects: *mut f32,
+        rects_len: usize,
+        count: usize,
+        id: u64,
+    ) -> Counted;
+
+    fn jaturemi_end_focus_pass(
+        nav: Nav,
+        ids: *mut u64,
+        ids_len: usize,
+        rects: *mut f32,
+        rects_len: usize,
+        count: usize,
+        used: *const u64,
+        used_len: usize,
+        corners: *const f32,
+        corners_len: usize,
+        limit: usize,
+    ) -> Counted;
+
+    fn jaturemi_request_focus(nav: Nav, id: u64) -> Changed;
+    fn jaturemi_request_focus_next_frame(nav: Nav, id: u64) -> Changed;
+    fn jaturemi_surrender_focus(nav: Nav, id: u64) -> Changed;
+    fn jaturemi_set_focus_lock_filter(nav: Nav, id: u64, filter: EventFilter) -> Changed;
+    fn jaturemi_move_focus(nav: Nav, direction: u64) -> Changed;
+    fn jaturemi_set_modal_layer(nav: Nav, layer: LayerId) -> Changed;
+
+    fn jaturemi_begun(f: Focus, e: Events) -> Done;
+    fn jaturemi_interested(f: Focus, id: u64) -> Done;
+    fn jaturemi_ended(f: Focus, u: Used) -> Done;
+}
+
+#[link(name = "focus", kind = "static")]
+unsafe extern "C" {
+    fn focus_begin_pass(f: *mut Focus, e: Events) -> u64;
+    fn focus_interested_in_focus(f: *mut Focus, id: u64) -> u64;
+    fn focus_end_pass(f: *mut Focus, u: Used) -> u64;
+}
+
+#[derive(Clone, Copy, PartialEq)]
+pub enum Form {
+    Core,
+    Record,
+    Thin,
+}
+
+impl Default for Nav {
+    fn default() -> Self {
+        Self {
+            focused: 0,
+            filter: EventFilter::default(),
+            id_previous_frame: 0,
+            id_two_frames_ago: 0,
+            id_next_frame: 0,
+            give_to_next: false,
+            last_interested: 0,
+            focus_direction: 6,
+            top_modal_layer: LayerId::default(),
+            top_modal_layer_current_frame: LayerId::default(),
+        }
+    }
+}
+
+impl Default for Focus {
+    fn default() -> Self {
+        Self {
+            nav: Nav::default(),
+            ids: [0; CACHED],
+            rects: [0.0; 4 * CACHED],
+            count: 0,
+            slot: 0,
+        }
+    }
+}
+
+impl Events {
+    pub fn of(words: &[u64]) -> Self {
+        let mut all = [0; 4 * EVENTS];
+        let kept = words.len().min(all.len());
+        all[..kept].copy_from_slice(&words[..kept]);
+        Self {
+            words: all,
+            count: words.len() / 4,
+        }
+    }
+}
+
+impl Used {
+    pub fn of(ids: &[u64], corners: &[f32]) -> Self {
+        let mut used = Self {
+            ids: [0; USED],
+            corners: [0.0; 4 * USED],
+            count: ids.len(),
+        };
+        let kept = ids.len().min(USED);
+        used.ids[..kept].copy_from_slice(&ids[..kept]);
+        used.corners[..4 * kept].copy_from_slice(&corners[..4 * kept]);
+        used
+    }
+}
+
+impl Focus {
+    /// What a call that changes only the fields left.
+    fn took(&mut self, r: Changed) -> u64 {
+        self.nav = r.nav;
+        r.refusal
+    }
+
+    pub fn begin_core(&mut self, words: &[u64]) -> u64 {
+        let (ids, rects) = (&self.ids, &self.rects);
+        let r = unsafe {
+            jaturemi_begin_pass(
+                self.nav,
+                ids.as_ptr(),
+                ids.len(),
+                rects.as_ptr(),
+                rects.len(),
+                self.count,
+                words.as_ptr(),
+                words.len(),
+            )
+        };
+        if r.refusal == 0 {
+            self.slot = 0;
+        }
+        self.took(r)
+    }
+
+    pub fn interest_core(&mut self, id: u64) -> u64 {
+        let (ids, rects) = (&mut self.ids, &mut self.rects);
+        let r = unsafe {
+            jaturemi_interested_in_focus(
+                self.nav,
+                ids.as_mut_ptr(),
+                ids.len(),
+                rects.as_mut_ptr(),
+                rects.len(),
+                self.count,
+                self.slot,
+                id,
+            )
+        };
+        self.nav = r.nav;
+        self.count = r.count;
+        self.slot = r.slot;
+        r.refusal
+    }
+
+    /// An interest call for each id, in a loop of the port itself.
+    pub fn interest_in_all(&mut self, page: &[u64]) -> u64 {
+        let (ids, rects) = (&mut self.ids, &mut self.rects);
+        let r = unsafe {
+            jaturemi_interested_in_all(
+                self.nav,
+                ids.as_mut_ptr(),
+                ids.len(),
+                rects.as_mut_ptr(),
+                rects.len(),
+                self.count,
+                self.slot,
+                page.as_ptr(),
+                page.len(),
+            )
+        };
+        self.nav = r.nav;
+        self.count = r.count;
+        self.slot = r.slot;
+        r.refusal
+    }
+
+    pub fn end_core(&mut self, used: &[u64], corners: &[f32]) -> u64 {
+        let (ids, rects) = (&mut self.ids, &mut self.rects);
+        let r = unsafe {
+            jaturemi_end_focus_pass(
+                self.nav,
+                ids.as_mut_ptr(),
+                ids.len(),
+                rects.as_mut_ptr(),
+                rects.len(),
+                self.count,
+                used.as_ptr(),
+                used.len(),
+                corners.as_ptr(),
+                corners.len(),
+                USED,
+            )
+        };
+        self.nav = r.nav;
+        self.count = r.count;
+        r.refusal
+    }
+
+    pub fn ignore(&mut self, id: u64) -> u64 {
+        let (ids, rects) = (&mut self.ids, &mut self.rects);
+        let r = unsafe {
+            jaturemi_ignore_focus(
+                self.nav,
+                ids.as_mut_ptr(),
+                ids.len(),
+                rects.as_mut_ptr(),
+                rects.len(),
+                self.count,
+                id,
+            )
+        };
+        self.nav = r.nav;
+        self.count = r.count;
+        r.refusal
+    }
+
+    /// The record by value.
+    fn replace(&mut self, done: Done) -> u64 {
+        *self = done.focus;
+        done.refusal
+    }
+
+    pub fn begin_record(&mut self, e: Events) -> u64 {
+        self.replace(unsafe { jaturemi_begun(*self, e) })
+    }
+
+    pub fn interest_record(&mut self, id: u64) -> u64 {
+        self.replace(unsafe { jaturemi_interested(*self, id) })
+    }
+
+    pub fn end_record(&mut self, u: Used) -> u64 {
+        self.replace(unsafe { jaturemi_ended(*self, u) })
+    }
+
+    /// The thin forms.
+    pub fn begin_thin(&mut self, e: Events) -> u64 {
+        unsafe { focus_begin_pass(self, e) }
+    }
+
+    pub fn interest_thin(&mut self, id: u64) -> u64 {
+        unsafe { focus_interested_in_focus(self, id) }
+    }
+
+    pub fn end_thin(&mut self, u: Used) -> u64 {
+        unsafe { focus_end_pass(self, u) }
+    }
+
+    pub fn begin(&mut self, form: Form, words: &[u64]) -> u64 {
+        match form {
+            Form::Core => self.begin_core(words),
+            Form::Record => self.begin_record(Events::of(words)),
+            Form::Thin => self.begin_thin(Events::of(words)),
+        }
+    }
+
+    pub fn interest(&mut self, form: Form, id: u64) -> u64 {
+        match form {
+            Form::Core => self.interest_core(id),
+            Form::Record => self.interest_record(id),
+            Form::Thin => self.interest_thin(id),
+        }
+    }
+
+    pub fn end(&mut self, form: Form, used: &[u64], corners: &[f32]) -> u64 {
+        match form {
+            Form::Core => self.end_core(used, corners),
+            Form::Record => self.end_record(Used::of(used, corners)),
+            Form::Thin => self.end_thin(Used::of(used, corners)),
+        }
+    }
+
+    pub fn request(&mut self, id: u64) -> u64 {
+        self.took(unsafe { jaturemi_request_focus(self.nav, id) })
+    }
+
+    pub fn request_next(&mut self, id: u64) -> u64 {
+        self.took(unsafe { jaturemi_request_focus_next_frame(self.nav, id) })
+    }
+
+    pub fn surrender(&mut self, id: u64) -> u64 {
+        self.took(unsafe { jaturemi_surrender_focus(self.nav, id) })
+    }
+
+    pub fn set_filter(&mut self, id: u64, filter: EventFilter) -> u64 {
+        self.took(unsafe { jaturemi_set_focus_lock_filter(self.nav, id, filter) })
+    }
+
+    pub fn move_to(&mut self, direction: u64) -> u64 {
+        self.took(unsafe { jaturemi_move_focus(self.nav, direction) })
+    }
+
+    pub fn set_modal(&mut self, layer: LayerId) -> u64 {
+        self.took(unsafe { jaturemi_set_modal_layer(self.nav, layer) })
+    }
+}
