@@ -1,4 +1,5 @@
-//! The port's focus (crates/board_focus and crates/focus, static libraries): its core over lent tables, the record by value, and the thin forms that borrow it.
+//! The port's focus, in four static libraries: its core over lent tables (crate board_focus) and a loop over it (board_page), the record by value (board_record), and the thin
+//! forms that borrow it (focus).
 
 pub const CACHED: usize = 256;
 pub const EVENTS: usize = 64;
@@ -112,18 +113,6 @@ unsafe extern "C" {
         id: u64,
     ) -> Interested;
 
-    fn jaturemi_interested_in_all(
-        nav: Nav,
-        ids: *mut u64,
-        ids_len: usize,
-        rects: *mut f32,
-        rects_len: usize,
-        count: usize,
-        slot: usize,
-        page: *const u64,
-        page_len: usize,
-    ) -> Interested;
-
     fn jaturemi_ignore_focus(
         nav: Nav,
         ids: *mut u64,
@@ -154,7 +143,25 @@ unsafe extern "C" {
     fn jaturemi_set_focus_lock_filter(nav: Nav, id: u64, filter: EventFilter) -> Changed;
     fn jaturemi_move_focus(nav: Nav, direction: u64) -> Changed;
     fn jaturemi_set_modal_layer(nav: Nav, layer: LayerId) -> Changed;
+}
 
+#[link(name = "board_page", kind = "static")]
+unsafe extern "C" {
+    fn jaturemi_interested_in_all(
+        nav: Nav,
+        ids: *mut u64,
+        ids_len: usize,
+        rects: *mut f32,
+        rects_len: usize,
+        count: usize,
+        slot: usize,
+        page: *const u64,
+        page_len: usize,
+    ) -> Interested;
+}
+
+#[link(name = "board_record", kind = "static")]
+unsafe extern "C" {
     fn jaturemi_begun(f: Focus, e: Events) -> Done;
     fn jaturemi_interested(f: Focus, id: u64) -> Done;
     fn jaturemi_ended(f: Focus, u: Used) -> Done;

@@ -43,12 +43,12 @@ impl Port {
 
 impl Side for Port {
     fn begin(&mut self, with_events: bool) -> u64 {
-        let events = if with_events { self.events } else { self.no_events };
+        let words: &[u64] = if with_events { &self.words } else { &[] };
+        let events = if with_events { &self.events } else { &self.no_events };
         match self.form {
-            Form::Core if with_events => self.focus.begin_core(&self.words),
-            Form::Core => self.focus.begin_core(&[]),
-            Form::Record => self.focus.begin_record(events),
-            Form::Thin => self.focus.begin_thin(events),
+            Form::Core => self.focus.begin_core(words),
+            Form::Record => self.focus.begin_record(*events),
+            Form::Thin => self.focus.begin_thin(*events),
         }
     }
 

@@ -10,12 +10,6 @@ ghost use Rattle.focus_pass.specs.Events.{eventsIn};
 ghost use Rattle.focus_pass.specs.Pass.{beginOf, interestOf, ignoreOf};
 ghost use Rattle.used.specs.Used.{entriesIn};
 ghost use Rattle.focus_end.specs.End.{endOf, cacheEnded};
-ghost use Rattle.focus.specs.Focus.{begunOf, interestedOf, endedOf};
-ghost use Rattle.board_focus.specs.Page.{pageIn, wanted, wantedAll};
-use focus::Done;
-use focus::Events;
-use focus::Focus;
-use focus::Used;
 use focus_end::Ended;
 use focus_pass::Ignored;
 use focus_pass::Interested;
@@ -23,7 +17,6 @@ use focus_rules::Changed;
 use focus_rules::Nav;
 use input::EventFilter;
 use layers::LayerId;
-use refusal::NONE;
 
 // ---- the core in place
 
@@ -54,47 +47,6 @@ pub extern "C" fn jaturemi_interested_in_focus(
     ensures { λ r. ⌜ (r ≡ interestOf nav (roomIn (now (ids .entry)) (now (rects .entry))) (heldIn count (now (ids .entry)) (now (rects .entry))) count slot id) × (cacheIn (now (ids .exit)) (now (rects .exit)) ≡ kept (r .refusal) (cacheIn (now (ids .entry)) (now (rects .entry))) (cacheOn (cacheIn (now (ids .entry)) (now (rects .entry))) (enlisted (heldIn count (now (ids .entry)) (now (rects .entry))) id))) ⌝ }
 {
     focus_pass::interested_in_focus(nav, ids, rects, count, slot, id)
-}
-
-// One interest call more; the refusal is the lowest so far.
-fn want(so_far: Interested, ids: &mut [u64], rects: &mut [f32], id: u64) -> Interested
-    ensures { λ r. ⌜ pageIn r (now (ids .exit)) (now (rects .exit)) ≡ wanted (pageIn «so_far» (now (ids .entry)) (now (rects .entry))) id ⌝ }
-{
-    let nav = so_far.nav;
-    let r = focus_pass::interested_in_focus(nav, ids, rects, so_far.count, so_far.slot, id);
-    let next = r.nav;
-    Interested {
-        refusal: refusal::lowest(so_far.refusal, r.refusal),
-        nav: next,
-        count: r.count,
-        slot: r.slot,
-    }
-}
-
-// An interest call for each id of a page, one after the other. The refusal is the lowest of any; a call that is refused changes nothing.
-#[no_mangle]
-pub extern "C" fn jaturemi_interested_in_all(
-    nav: Nav,
-    ids: &mut [u64],
-    rects: &mut [f32],
-    count: usize,
-    slot: usize,
-    page: &[u64],
-) -> Interested
-    ensures { λ r. ⌜ pageIn r (now (ids .exit)) (now (rects .exit)) ≡ wantedAll (pageIn (record { refusal = 0; nav = nav; count = count; slot = slot }) (now (ids .entry)) (now (rects .entry))) (now (page .entry)) ⌝ }
-{
-    let mut so_far = Interested {
-        refusal: NONE,
-        nav: nav,
-        count: count,
-        slot: slot,
-    };
-    let mut i: usize = 0;
-    while i < page.len() {
-        so_far = want(so_far, ids, rects, page[i]);
-        i += 1;
-    }
-    so_far
 }
 
 // `focus_pass::ignore_focus`.
@@ -169,27 +121,4 @@ pub extern "C" fn jaturemi_set_modal_layer(nav: Nav, layer: LayerId) -> Changed
     ensures { λ r. ⌜ r ≡ changedTo (layerRefusal layer) nav (withModals nav (nav .«top_modal_layer») layer) ⌝ }
 {
     nav.set_modal_layer(layer)
-}
-
-// ---- the record by value; its thin forms are exported by crate `focus` itself
-
-#[no_mangle]
-pub extern "C" fn jaturemi_begun(f: Focus, e: Events) -> Done
-    ensures { λ r. ⌜ r ≡ begunOf f e ⌝ }
-{
-    focus::begun(f, e)
-}
-
-#[no_mangle]
-pub extern "C" fn jaturemi_interested(f: Focus, id: u64) -> Done
-    ensures { λ r. ⌜ r ≡ interestedOf f id ⌝ }
-{
-    focus::interested(f, id)
-}
-
-#[no_mangle]
-pub extern "C" fn jaturemi_ended(f: Focus, u: Used) -> Done
-    ensures { λ r. ⌜ r ≡ endedOf f u ⌝ }
-{
-    focus::ended(f, u)
 }

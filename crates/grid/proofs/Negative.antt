@@ -28,7 +28,7 @@ few m k a b = go (ltb 5 (suc k)) (ltb→lt 5 (suc k)) (nltb→le 5 (suc k))
     go true u v = absurd (clash m (2 ^ suc k) a b (pow-mono (u tt)))
     go false u v = v tt
 
-coarse : (s : Bool) (m : ℕ) (e : ℤ) → T (fits binary32 (fin s m e)) → 2 ^ 18 * down e < m * up e → m * up e * 32 % down e ≡ 0
+pub coarse : (s : Bool) (m : ℕ) (e : ℤ) → T (fits binary32 (fin s m e)) → 2 ^ 18 * down e < m * up e → m * up e * 32 % down e ≡ 0
 coarse s m (pos k) f h = mod-one (m * 2 ^ k * 32)
 coarse s m (negsuc k) f h =
     let g : suc k ≤ 5 = few m k (held s m (negsuc k) f .digits) h in

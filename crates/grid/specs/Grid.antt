@@ -1,8 +1,8 @@
 -- Refusals 3 and 4 of corners, sizes, pivot positions and rectangles, from document 01, "Grid" and "What a refused call says". Definitions only.
 use Prim.Native.Nat.{ℕ, _*_}
-use mathlib.Core.Bool.{_||_, cond}
+use mathlib.Core.Bool.{Bool, not, _&&_, _||_, cond}
 use lib.IntN.{ℤ, pos, negsuc, natAbs}
-use lib.Dec.{leb}
+use lib.Dec.{leb, eqb}
 use lib.Ieee.{Float, binary32, ofBits, neg, lt}
 use Rattle.refusal.specs.Refusal.{none, offGrid, reversed, lowest}
 use Rattle.floats.specs.Count.{Count, off, at, countOf}
@@ -52,3 +52,7 @@ crossed r = cond (lt (r .max .x) (r .min .x) || lt (r .max .y) (r .min .y)) reve
 
 unfoldable pub rectRefusal : Rect → ℕ
 rectRefusal r = lowest (lowest (posRefusal (r .min)) (posRefusal (r .max))) (crossed r)
+
+-- one axis of a rectangle is taken: both its ends are, and the high one is not below the low one
+abbrev pub axisTaken : Float → Float → Bool
+axisTaken low high = eqb (cornerRefusal low) none && (eqb (cornerRefusal high) none && not (lt high low))

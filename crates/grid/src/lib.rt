@@ -6,7 +6,7 @@ ghost use lib.IntN.{ℤ, pos, natAbs};
 ghost use lib.Ieee.{Float, binary32, ofBits, add, sub, eq};
 ghost use Rattle.refusal.specs.Refusal.{none};
 ghost use Rattle.floats.specs.Count.{at, countOf};
-ghost use Rattle.grid.specs.Grid.{magnitudeOf, within, cornerRefusal, pivotRefusal, sideRefusal, posRefusal, pivotPosRefusal, sizeRefusal, crossed, rectRefusal};
+ghost use Rattle.grid.specs.Grid.{magnitudeOf, within, cornerRefusal, pivotRefusal, sideRefusal, posRefusal, pivotPosRefusal, sizeRefusal, crossed, rectRefusal, axisTaken};
 use emath::Pos2;
 use emath::Rect;
 use refusal::NONE;
@@ -104,11 +104,39 @@ fn crossed(r: Rect) -> u64
     NONE
 }
 
+// Whether x, within ±16,384, is a multiple of 1/32: the sum lies where f32 has steps of 1/32.
+fn on_step(x: f32) -> bool
+    ensures { λ r. ⌜ r ≡ eq (sub binary32 (add binary32 x (ofBits binary32 0x48c0_0000)) (ofBits binary32 0x48c0_0000)) x ⌝ }
+{
+    (x + 393216.0) - 393216.0 == x
+}
+
+// Whether one axis of a rectangle is taken: both ends on the grid, in their order.
+fn axis(low: f32, high: f32) -> bool
+    ensures { λ r. ⌜ r ≡ axisTaken low high ⌝ }
+{
+    if low <= high {
+        if -16384.0 <= low {
+            if high <= 16384.0 {
+                if on_step(low) {
+                    return on_step(high);
+                }
+            }
+        }
+    }
+    false
+}
+
 pub fn rect(r: Rect) -> u64
     ensures { λ n. ⌜ n ≡ rectRefusal r ⌝ }
 {
     let min = r.min;
     let max = r.max;
+    if axis(min.x, max.x) {
+        if axis(min.y, max.y) {
+            return NONE;
+        }
+    }
     refusal::lowest(refusal::lowest(pos(min), pos(max)), crossed(r))
 }
 

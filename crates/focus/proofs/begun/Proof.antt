@@ -27,10 +27,10 @@ mul-words : tie.Need-mul-words
 mul-words c = search needs
 
 array-share-prefix-words : tie.Need-array-share-prefix-words
-array-share-prefix-words c = fits (c .before .before .before .before .before .before .before .before .before ) (c .before .before .before .before .before .before .before .if1 .left)
+array-share-prefix-words c = fits (c .before .before .before .before .before .before .before .before .before) (c .before .before .before .before .before .before .before .if1 .left)
 
 slice-aggregate-begin-pass-3 : tie.Need-slice-aggregate-begin-pass-3
-slice-aggregate-begin-pass-3 c = sym (length-take-le _ _ (fits (c .before .before .before .before .before .before .before .before .before .before ) (c .before .before .before .before .before .before .before .before .if1 .left)))
+slice-aggregate-begin-pass-3 c = sym (length-take-le _ _ (fits (c .before .before .before .before .before .before .before .before .before .before) (c .before .before .before .before .before .before .before .before .if1 .left)))
 
 begin-pass-requires : tie.Need-begin-pass-requires
 begin-pass-requires c κs = search needs
@@ -39,7 +39,7 @@ slot-after-requires : tie.Need-slot-after-requires
 slot-after-requires c κs = search needs
 
 returns-2 : tie.Need-returns-2
-returns-2 c = begun _ _ (fits (c .before .before .before .before .before .before .before .before .before .before .before .before .before ) (c .before .before .before .before .before .before .before .before .before .before .before .if1 .left)) _ (c .before .before .begin-pass .ensures) _ (c .slot-after .ensures)
+returns-2 c = begun _ _ (fits (c .before .before .before .before .before .before .before .before .before .before .before .before .before) (c .before .before .before .before .before .before .before .before .before .before .before .if1 .left)) _ (c .before .before .begin-pass .ensures) _ (c .slot-after .ensures)
 
 pub begun-spec : {M : Type 1} → statement M
 begun-spec =

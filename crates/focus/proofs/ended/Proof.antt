@@ -26,10 +26,10 @@ slice-aggregate-end-pass-2 : tie.Need-slice-aggregate-end-pass-2
 slice-aggregate-end-pass-2 c = search needs
 
 array-share-prefix-used : tie.Need-array-share-prefix-used
-array-share-prefix-used c = fits (c .before .before .before .before .before .before .before .before .before ) (c .before .before .before .before .before .before .before .if1 .left)
+array-share-prefix-used c = fits (c .before .before .before .before .before .before .before .before .before) (c .before .before .before .before .before .before .before .if1 .left)
 
 slice-aggregate-end-pass-3 : tie.Need-slice-aggregate-end-pass-3
-slice-aggregate-end-pass-3 c = sym (length-take-le _ _ (fits (c .before .before .before .before .before .before .before .before .before .before ) (c .before .before .before .before .before .before .before .before .if1 .left)))
+slice-aggregate-end-pass-3 c = sym (length-take-le _ _ (fits (c .before .before .before .before .before .before .before .before .before .before) (c .before .before .before .before .before .before .before .before .if1 .left)))
 
 slice-aggregate-end-pass-4 : tie.Need-slice-aggregate-end-pass-4
 slice-aggregate-end-pass-4 c = search needs

@@ -1,13 +1,13 @@
--- `board_focus::jaturemi_interested_in_all` meets its contract. Assumes nothing.
+-- `board_page::jaturemi_interested_in_all` meets its contract. Assumes nothing.
 use mathlib.Core.Path.{_≡_, refl}
 use Prim.Native.Nat.{_-_, _≤_}
 use native.Mathlib.Omega.{arith}
 use lib.ListN.{length, drop}
 use borrow.Author.Needs.{needs}
-use Rattle.board_focus.specs.Page.{pageIn, wantedAll}
-use Rattle.board_focus.proofs.Pages.{all-more, all-done}
-use Rattle.board_focus.proofs.jaturemi_interested_in_all.Statement.{statement}
-use Rattle.board_focus.proofs.jaturemi_interested_in_all.Tie as tie
+use Rattle.board_page.specs.Page.{pageIn, wantedAll}
+use Rattle.board_page.proofs.Pages.{all-more, all-done}
+use Rattle.board_page.proofs.jaturemi_interested_in_all.Statement.{statement}
+use Rattle.board_page.proofs.jaturemi_interested_in_all.Tie as tie
 
 abbrev Inv-loop : tie.InvT-loop
 Inv-loop ids₀ rects₀ count slot page so-far₀ i₀ ids rects so-far i = (wantedAll (pageIn so-far ids rects) (drop i page) ≡ wantedAll (pageIn so-far₀ ids₀ rects₀) page) × (i ≤ length page) × (length ids ≡ length ids₀) × (length rects ≡ length rects₀)

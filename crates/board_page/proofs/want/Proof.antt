@@ -1,8 +1,8 @@
--- `board_focus::want` meets its contract. Assumes nothing.
-use Rattle.board_focus.proofs.Pages.{one-more}
+-- `board_page::want` meets its contract. Assumes nothing.
+use Rattle.board_page.proofs.Pages.{one-more}
 use borrow.Author.Needs.{needs}
-use Rattle.board_focus.proofs.want.Statement.{statement}
-use Rattle.board_focus.proofs.want.Tie as tie
+use Rattle.board_page.proofs.want.Statement.{statement}
+use Rattle.board_page.proofs.want.Tie as tie
 
 interested-in-focus-requires : tie.Need-interested-in-focus-requires
 interested-in-focus-requires c κs = search needs

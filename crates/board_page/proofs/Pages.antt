@@ -10,7 +10,7 @@ use Rattle.refusal.specs.Refusal.{lowest, kept}
 use Rattle.focus_cache.specs.Cache.{Cache, cacheIn, cacheOn, roomIn, heldIn, enlisted}
 use Rattle.focus_pass.specs.declared.Interested.{Interested}
 use Rattle.focus_pass.specs.Pass.{interestOf}
-use Rattle.board_focus.specs.Page.{Page, pageIn, wanted, wantedAll}
+use Rattle.board_page.specs.Page.{Page, pageIn, wanted, wantedAll}
 
 -- what the call gave, and the lowest refusal with it
 pub one-more : (s : Interested) (ids : List ℕ) (rects : List Float) (id : ℕ) (r : Interested) (ids′ : List ℕ) (rects′ : List Float) (low : ℕ)
