@@ -7,6 +7,7 @@
 #![allow(dead_code)]
 #[path = "../src/emath.rs"]
 mod emath;
+mod foreign;
 mod pass;
 mod port;
 mod times;
