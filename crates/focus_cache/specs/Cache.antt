@@ -1,4 +1,4 @@
--- `focus_widgets_cache` of Focus (memory/mod.rs, line 542), a map from ids to rectangles, as the list of its entries in the order in which they came: what the calls do to the list, and the
+-- `focus_widgets_cache` of Focus (memory/mod.rs, line 537), a map from ids to rectangles, as the list of its entries in the order in which they came: what the calls do to the list, and the
 -- exact value of each number of the tables that hold it. A reader needs only the list. Definitions only.
 use Prim.Native.Nat.{ℕ, suc, _+_, _*_, _/_, min}
 use mathlib.Core.Bool.{Bool, false, cond, _||_}

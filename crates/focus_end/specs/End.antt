@@ -1,4 +1,4 @@
--- Focus::end_pass and find_widget_in_direction of memory/mod.rs (lines 640 to 660 and 720 to 783) over the fields of crate focus_rules, the entries of the cache and those that were used, with
+-- Focus::end_pass and find_widget_in_direction of memory/mod.rs (lines 635 to 653 and 708 to 783) over the fields of crate focus_rules, the entries of the cache and those that were used, with
 -- document 01's refusals. Definitions only.
 use Prim.Native.Nat.{ℕ}
 use mathlib.Core.Bool.{cond}

@@ -1,4 +1,5 @@
--- Focus of memory/mod.rs (lines 503 to 784) in its own terms, its options and its map, and the methods of Memory that change only it (lines 895 to 946). Definitions only.
+-- Focus of memory/mod.rs (lines 503 to 784) in its own terms, its options and its map, and what the methods of Memory from set_focus_lock_filter to move_focus do to it (lines 908 to 957). Of
+-- equal scores the search takes the smallest id (document 01), as egui does where its map hands the ids out in rising order (search::walk_in_tie_order). Definitions only.
 use Prim.Native.Nat.{ℕ}
 use mathlib.Core.Bool.{Bool, true, false, not, _&&_, cond}
 use mathlib.Core.List.{List, [], _∷_}

@@ -16,7 +16,8 @@ pub fn refuses_as_the_table_says()
         × ((f : Focus) (call : Call) → (doneBy call f .refusal ≡ 0 → ⊥) → doneBy call f .focus ≡ f) ⌝ }
 {}
 
-// After any list of calls, refused ones among them, the record holds what egui's `Focus` does after the same calls, with 256 ids for the limit of the cache. There is nothing to run.
+// After any list of calls, refused ones among them, the record holds what egui's `Focus` does after the same calls, with 256 ids for the limit of the cache and ties of the search as document 01 has them.
+// There is nothing to run.
 pub fn record_means_egui()
     ensures { λ _. ⌜ ((calls : Calls) → meaningOf (recordAfter calls) ≡ eguiAfter cached calls) ⌝ }
 {}

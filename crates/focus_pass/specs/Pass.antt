@@ -1,4 +1,4 @@
--- Focus::begin_pass and interested_in_focus, Memory::ignore_focus of memory/mod.rs (lines 571 to 638, 668 to 704 and 936 to 942) over the fields of crate focus_rules and the entries of
+-- Focus::begin_pass and interested_in_focus, Memory::ignore_focus of memory/mod.rs (lines 569 to 633, 659 to 694 and 946 to 952) over the fields of crate focus_rules and the entries of
 -- the cache, with document 01's refusals. Definitions only.
 use Prim.Native.Nat.{ℕ}
 use mathlib.Core.Bool.{Bool, cond, not, _&&_}

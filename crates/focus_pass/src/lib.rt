@@ -1,7 +1,7 @@
 // `Focus::begin_pass` and `interested_in_focus`, `Memory::ignore_focus` of memory/mod.rs, in place: the fields by value (crate `focus_rules`), the cache in lent tables
 // (crate `focus_cache`), and the events of a pass in a lent slice, four numbers each.
 //     first number    the others
-//     1, a key        its code, 1 where it is pressed plus 2 where it is a repeat, its modifiers
+//     1, a key        its code, 1 where it is pressed plus 2 where it is a repeat (modulo 4), its modifiers
 //     2, a request    the id for which an accessibility program asks the focus
 //     any other       an event that moves no focus
 ghost use mathlib.Core.Path.{_≡_};
@@ -40,7 +40,7 @@ pub struct Ignored {
     pub count: usize,
 }
 
-// A code or id that is missing.
+// A code that is missing: past the last of every kind.
 const MISSING: u64 = 18446744073709551615;
 
 // How many events the numbers are; one that is not whole counts.
@@ -70,7 +70,7 @@ fn event_of(kind: u64, code: u64, id: u64, flags: u64, modifiers: u64) -> Event
     }
 }
 
-// The event whose numbers start at a place. A code that is missing is none, nor is an id.
+// The event whose numbers start at a place. A code that is missing is past the last, and an id that is missing is 0.
 fn event(words: &[u64], at: usize) -> Event
     requires { ⌜ at ≤ 1000 ⌝ }
     ensures { λ r. ⌜ r ≡ eventAt (now (words .entry)) at ⌝ }

@@ -1,4 +1,4 @@
--- Focus of memory/mod.rs (lines 503 to 543) without its cache, and what its methods and those of Memory do to these fields (lines 565 to 704 and 895 to 946). Definitions only.
+-- Focus of memory/mod.rs (lines 503 to 538) without its cache, and what its methods and those of Memory do to these fields (lines 563 to 706 and 908 to 957). Definitions only.
 use Prim.Native.Nat.{ℕ, zero, suc}
 use mathlib.Core.Bool.{Bool, true, false, not, _&&_, cond}
 use lib.Dec.{eqb}
@@ -22,10 +22,10 @@ use Rattle.focus_rules.specs.declared.IdAnswer.the-variants as IdAnswer
 
 -- ---- one field anew
 module _ (n : Nav) where
-  -- `focused_widget = Some(FocusWidget::new(id))`; of id 0, `None`
   abbrev pub withFocus : ℕ → EventFilter → Nav
   withFocus id filter = record { focused = id; filter = filter; «id_previous_frame» = n .«id_previous_frame»; «id_two_frames_ago» = n .«id_two_frames_ago»; «id_next_frame» = n .«id_next_frame»; «give_to_next» = n .«give_to_next»; «last_interested» = n .«last_interested»; «focus_direction» = n .«focus_direction»; «top_modal_layer» = n .«top_modal_layer»; «top_modal_layer_current_frame» = n .«top_modal_layer_current_frame» }
 
+  -- `focused_widget = Some(FocusWidget::new(id))`; of id 0, `None`
   abbrev pub focusOn : ℕ → Nav
   focusOn id = withFocus id defaultFilter
 
@@ -77,7 +77,7 @@ idOrNothing id = cond (eqb id 0) IdAnswer.Nothing (IdAnswer.Is id)
 abbrev pub layerOrNothing : LayerId → LayerAnswer
 layerOrNothing layer = cond (eqb (layer .id) 0) LayerAnswer.Nothing (LayerAnswer.Is layer)
 
--- ---- begin_pass (lines 571 to 638), up to the events
+-- ---- begin_pass (lines 569 to 633): up to the events
 abbrev pub handedOver : Nav → Nav
 handedOver n = cond (eqb (n .«id_next_frame») 0) n (focusOn (withNext n 0) (n .«id_next_frame»))
 
@@ -106,7 +106,7 @@ begunOf n h cached =
     let moved = withDirection (cond (eqb (h .escaped) 0) n (focusOn n 0)) (h .direction) in
     cond cached (resetFocus (withGive (focusOn moved (h .asked)) false)) moved
 
--- ---- interested_in_focus (lines 668 to 704), after the cache's part: the first rule that fits
+-- ---- interested_in_focus (lines 659 to 694), after the cache's part: the first rule that fits
 abbrev pub gives : Nav → ℕ → Bool
 gives n id = n .«give_to_next» && not (eqb (n .«id_previous_frame») id)
 
@@ -125,7 +125,7 @@ ruled n id =
 unfoldable pub interestedOf : Nav → ℕ → Nav
 interestedOf n id = withLast (ruled n id) id
 
--- ---- end_pass (lines 640 to 660): what the search found, 0 for nothing; then the focus that disappeared, and the modal layer
+-- ---- end_pass (lines 635 to 653): what the search found, 0 for nothing; then the focus that disappeared, and the modal layer
 unfoldable pub foundOf : Nav → ℕ → Nav
 foundOf n id = cond (eqb id 0) n (focusOn n id)
 
@@ -136,7 +136,7 @@ droppedOf n used = cond (eqb (n .«id_previous_frame») (n .focused) && not used
 unfoldable pub endedOf : Nav → Bool → Nav
 endedOf n used = withModals (droppedOf n used) (n .«top_modal_layer_current_frame») noLayer
 
--- ---- the calls of Memory on these fields (lines 895 to 946)
+-- ---- the calls of Memory on these fields (lines 908 to 957)
 -- the next fields, unless the call is refused
 abbrev pub changedTo : ℕ → Nav → Nav → Changed
 changedTo zero n m = record { refusal = zero; nav = m }

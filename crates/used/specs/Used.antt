@@ -1,4 +1,4 @@
--- `used_ids` of memory/mod.rs (`end_pass`, line 640), a map from ids to rectangles, as the list of entries that the caller gives, and document 01's refusals of it. Definitions only.
+-- `used_ids` of memory/mod.rs (`end_pass`, line 635), a map from ids to rectangles, as the list of entries that the caller gives, and document 01's refusals of it. Definitions only.
 use Prim.Native.Nat.{ℕ, suc, _+_, _*_}
 use mathlib.Core.Bool.{Bool, true, false, cond, _||_}
 use mathlib.Core.List.{List, [], _∷_, map}
