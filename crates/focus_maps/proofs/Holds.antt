@@ -19,7 +19,7 @@ module _ (f : Focus) (call : Call) where
   abbrev left : ℕ → Focus
   left r = kept r f (accepted call f)
 
-  leaves : doneBy call f .focus ≡ left (refusalOf (limit f) call (meaningOf f))
+  pub leaves : doneBy call f .focus ≡ left (refusalOf (limit f) call (meaningOf f))
   leaves = ap (λ (d : Done). d .focus) (done f call)
 
   pub unchanged : (doneBy call f .refusal ≡ 0 → ⊥) → doneBy call f .focus ≡ f

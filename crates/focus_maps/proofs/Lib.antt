@@ -4,3 +4,4 @@ pub mod Begun
 pub mod Ended
 pub mod Steps
 pub mod Holds
+pub mod Distinct

@@ -1,4 +1,4 @@
--- What the numbers of the record say in egui's options, test by test, and the calls that only change such fields. Assumes nothing.
+-- What the numbers of the record say in egui's options, test by test, the calls that only change such fields, and the queries. Assumes nothing.
 use mathlib.Core.Path.{_≡_, refl, sym, ap, _∙_}
 use mathlib.Core.Bool.{Bool, true, false, cond, not, _&&_}
 use mathlib.Core.List.{List}
@@ -7,7 +7,8 @@ use Prim.Native.Nat.{ℕ}
 use native.Mathlib.Omega.{arith}
 use lib.Dec.{eqb}
 use borrow.Author.Tests.{eqb-true, eqb-false, ne-eqb}
-use Rattle.refusal.specs.Refusal.{idRefusal, codeRefusal}
+use Rattle.refusal.specs.Refusal.{zeroId, idRefusal, codeRefusal}
+use Rattle.refusal.specs.Refusal.{none as notRefused}
 use Rattle.refusal.specs.Limits.{lastOrder}
 use Rattle.refusal.proofs.Laws.{both-none}
 use Rattle.input.specs.declared.EventFilter.{EventFilter}
@@ -16,13 +17,16 @@ use Rattle.input.specs.FocusDirection.{previous, next}
 use Rattle.layers.specs.declared.LayerId.{LayerId}
 use Rattle.layers.specs.Layers.{layerRefusal}
 use Rattle.search.specs.declared.Candidate.{Candidate}
+use Rattle.layer_queries.specs.declared.LayerAnswer.the-variants as LayerAnswer
+use Rattle.layer_queries.specs.Queries.{flagAnswer}
+use Rattle.focus_rules.specs.declared.IdAnswer.the-variants as IdAnswer
 use Rattle.focus_rules.specs.declared.Nav.{Nav}
 use Rattle.focus_rules.specs.declared.FocusWidget.{FocusWidget}
 use Rattle.focus_rules.specs.declared.FocusWidget.the-variants.{Absent, Held}
-use Rattle.focus_rules.specs.Rules.{focusedWidget, focusOn, withFocus, withNext, withModals, isIdle, ruled, interestedOf, letGo, filteredOf}
+use Rattle.focus_rules.specs.Rules.{idOrNothing, layerOrNothing, focusedWidget, focusOn, withFocus, withNext, withModals, isIdle, ruled, interestedOf, letGo, filteredOf}
 use Rattle.focus_cache.specs.Cache.{enlisted, without}
 use Rattle.focus_maps.specs.Egui as Egui
-use Rattle.focus_maps.specs.Calls.{optionOf, meaning}
+use Rattle.focus_maps.specs.Calls.{optionOf, layerOption, meaning, idAnswer, layerAnswerOf}
 
 -- ---- what a refusal that is none says
 pub id-taken : (id : ℕ) → idRefusal id ≡ 0 → eqb id 0 ≡ false
@@ -119,3 +123,26 @@ module _ (n : Nav) (c : List Candidate) (id : ℕ) (h : eqb id 0 ≡ false) wher
 
 pub modal-means : (n : Nav) (c : List Candidate) (layer : LayerId) → eqb (layer .id) 0 ≡ false → meaning (withModals n (n .«top_modal_layer») layer) c ≡ Egui.setModalLayer (meaning n c) layer
 modal-means n c layer h = rw h
+
+-- ---- the queries
+module _ (n : Nav) where
+  pub focused-answer : idOrNothing (n .focused) ≡ idAnswer (Egui.idOf (focusedWidget n))
+  focused-answer = rw (focused-means n) (go (eqb (n .focused) 0))
+    where
+      go : (b : Bool) → cond b IdAnswer.Nothing (IdAnswer.Is (n .focused)) ≡ idAnswer (cond b none (some (n .focused)))
+      go true = refl
+      go false = refl
+
+  pub last-answer : (id : ℕ) → flagAnswer (idRefusal id) (eqb (n .«id_previous_frame») id) ≡ flagAnswer (idRefusal id) (Egui.is (optionOf (n .«id_previous_frame»)) id)
+  last-answer id = go (eqb id 0) refl
+    where
+      go : (b : Bool) → eqb id 0 ≡ b → flagAnswer (cond b zeroId notRefused) (eqb (n .«id_previous_frame») id) ≡ flagAnswer (cond b zeroId notRefused) (Egui.is (optionOf (n .«id_previous_frame»)) id)
+      go true e = refl
+      go false e = ap (flagAnswer notRefused) (sym (is-means (n .«id_previous_frame») id e))
+
+pub layer-answer : (layer : LayerId) → layerOrNothing layer ≡ layerAnswerOf (layerOption layer)
+layer-answer layer = go (eqb (layer .id) 0)
+  where
+    go : (b : Bool) → cond b LayerAnswer.Nothing (LayerAnswer.Is layer) ≡ layerAnswerOf (cond b none (some layer))
+    go true = refl
+    go false = refl

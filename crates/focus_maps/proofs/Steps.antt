@@ -4,7 +4,7 @@ use mathlib.Core.Bool.{Bool, true, false, cond}
 use mathlib.Core.List.{List}
 use Prim.Native.Nat.{ℕ, zero, suc, _≤_}
 use native.Mathlib.Omega.{arith}
-use lib.Dec.{ltb}
+use lib.Dec.{eqb, ltb}
 use lib.ListN.{length}
 use borrow.Author.Tests.{ltb-false}
 use Rattle.refusal.specs.Refusal.{badList, full, idRefusal, codeRefusal, kept}
@@ -22,6 +22,7 @@ use Rattle.focus_pass.specs.Pass.{navBegun, beginOf, interestRefusal, interestO
 use Rattle.used.specs.Used.{usedRefusal}
 use Rattle.focus_end.specs.End.{cacheEnded, navEnded, endOf}
 use Rattle.focus.specs.declared.Focus.{Focus}
+use Rattle.focus.specs.declared.Used.{Used}
 use Rattle.focus.specs.declared.Done.{Done}
 use Rattle.focus.specs.Focus.{cacheOf, heldOf, eventsOf, usedOf, focusWith, withNav, begunOf, interestedOf, endedWith, endedOf, ignoredOf, modalSet, requested, requestedNext, surrendered, filterSet, moved}
 use Rattle.focus_maps.specs.Calls.{Call, Begin, Interest, End, SetModalLayer, RequestFocus, RequestFocusNextFrame, SurrenderFocus, IgnoreFocus, SetFocusLockFilter, MoveFocus, meaningOf, doneBy, refusalOf, eguiCall}
@@ -105,19 +106,30 @@ module _ (f : Focus) where
   held-fits : length (heldOf f) ≤ limit f
   held-fits = omega (arith, held-length (f .count) (f .ids) (f .rects))
 
+  -- the entries that it leaves
+  room-after : (id : ℕ) → refusalOf (limit f) (Interest id) (meaningOf f) ≡ 0 → (eqb id 0 ≡ false) × (length (enlisted (heldOf f) id) ≤ limit f)
+  room-after id e =
+      let (p, q) = both-none (idRefusal id) (cond (ltb (limit f) (length (enlisted (heldOf f) id))) full notRefused) e in
+      (id-taken id p, room-left (ltb (limit f) (length (enlisted (heldOf f) id))) _ _ refl q)
+
+  pub interest-held : (id : ℕ) → refusalOf (limit f) (Interest id) (meaningOf f) ≡ 0 → heldOf (accepted (Interest id) f) ≡ enlisted (heldOf f) id
+  interest-held id e = held-on (cacheOf f) (enlisted (heldOf f) id) (room-after id e .1)
+
+  pub end-held : (used : Used) → heldOf (accepted (End used) f) ≡ cacheEnded (f .nav) (heldOf f) (usedOf used)
+  end-held used = held-on (cacheOf f) (cacheEnded (f .nav) (heldOf f) (usedOf used)) (omega (arith, ended-length (f .nav) (heldOf f) (usedOf used), held-fits))
+
+  pub ignore-held : (id : ℕ) → heldOf (accepted (IgnoreFocus id) f) ≡ without (heldOf f) id
+  ignore-held id = held-on (cacheOf f) (without (heldOf f) id) (omega (arith, without-length (heldOf f) id, held-fits))
+
   pub accepted-means : (call : Call) → refusalOf (limit f) call (meaningOf f) ≡ 0 → meaningOf (accepted call f) ≡ eguiCall call (meaningOf f)
   accepted-means (Begin events) e = begin-means (f .nav) (heldOf f) (eventsOf events) e
-  accepted-means (Interest id) e =
-      let (p, q) = both-none (idRefusal id) (cond (ltb (limit f) (length (enlisted (heldOf f) id))) full notRefused) e in
-      rw (held-on (cacheOf f) (enlisted (heldOf f) id) (room-left (ltb (limit f) (length (enlisted (heldOf f) id))) _ _ refl q)) (interest-means (f .nav) (heldOf f) id (id-taken id p))
-  accepted-means (End used) e =
-      let h : length (cacheEnded (f .nav) (heldOf f) (usedOf used)) ≤ limit f = omega (arith, ended-length (f .nav) (heldOf f) (usedOf used), held-fits) in
-      rw (held-on (cacheOf f) (cacheEnded (f .nav) (heldOf f) (usedOf used)) h) (end-means (f .nav) (heldOf f) (usedOf used))
+  accepted-means (Interest id) e = rw (interest-held id e) (interest-means (f .nav) (heldOf f) id (room-after id e .0))
+  accepted-means (End used) e = rw (end-held used) (end-means (f .nav) (heldOf f) (usedOf used))
   accepted-means (SetModalLayer layer) e = modal-means (f .nav) (heldOf f) layer (layer-taken layer e)
   accepted-means (RequestFocus id) e = on-means (f .nav) (heldOf f) id (id-taken id e)
   accepted-means (RequestFocusNextFrame id) e = next-means (f .nav) (heldOf f) id (id-taken id e)
   accepted-means (SurrenderFocus id) e = letgo-means (f .nav) (heldOf f) id (id-taken id e)
-  accepted-means (IgnoreFocus id) e = rw (held-on (cacheOf f) (without (heldOf f) id) (omega (arith, without-length (heldOf f) id, held-fits))) (ignore-means (f .nav) (heldOf f) id (id-taken id e))
+  accepted-means (IgnoreFocus id) e = rw (ignore-held id) (ignore-means (f .nav) (heldOf f) id (id-taken id e))
   accepted-means (SetFocusLockFilter id filter) e = filter-means (f .nav) (heldOf f) id (id-taken id e) filter
   accepted-means (MoveFocus direction) e = refl
 

@@ -13,6 +13,10 @@ use Rattle.input.specs.declared.EventFilter.{EventFilter}
 use Rattle.layers.specs.declared.LayerId.{LayerId}
 use Rattle.layers.specs.Layers.{layerRefusal}
 use Rattle.search.specs.declared.Candidate.{Candidate}
+use Rattle.layer_queries.specs.declared.LayerAnswer.{LayerAnswer}
+use Rattle.layer_queries.specs.declared.LayerAnswer.the-variants as LayerAnswer
+use Rattle.focus_rules.specs.declared.IdAnswer.{IdAnswer}
+use Rattle.focus_rules.specs.declared.IdAnswer.the-variants as IdAnswer
 use Rattle.focus_rules.specs.declared.Nav.{Nav}
 use Rattle.focus_rules.specs.Rules.{focusedWidget}
 use Rattle.focus_cache.specs.Cache.{enlisted}
@@ -37,6 +41,15 @@ meaning n cache = record { focusedWidget = focusedWidget n; idPreviousFrame = op
 
 abbrev pub meaningOf : Focus → Egui.Focus
 meaningOf f = meaning (f .nav) (heldOf f)
+
+-- how an answer of the port says an option
+abbrev pub idAnswer : Option ℕ → IdAnswer
+idAnswer none = IdAnswer.Nothing
+idAnswer (some id) = IdAnswer.Is id
+
+abbrev pub layerAnswerOf : Option LayerId → LayerAnswer
+layerAnswerOf none = LayerAnswer.Nothing
+layerAnswerOf (some layer) = LayerAnswer.Is layer
 
 -- ---- a call, with the arguments that the code gets
 pub data Call : Type 0 where
