@@ -1,11 +1,13 @@
--- What it means that an id stands twice, and what the marks tell of it. Assumes nothing.
-use mathlib.Core.Path.{_≡_, refl, sym, ap, _∙_}
-use Prim.Native.Nat.{ℕ, zero, suc, _+_, _%_, _<_, _≤_, suc-le-suc}
-use native.Mathlib.Decide.{decLt, ℕ-discrete}
+-- What it means that an id stands twice, and what the cells tell of it. Assumes nothing.
+use mathlib.Core.Path.{_≡_, refl, sym, ap, _∙_, subst}
+use Prim.Native.Nat.{ℕ, zero, suc, _+_, _*_, _/_, _%_, max, _<_, _≤_, suc-le-suc}
+use native.Mathlib.Decide.{ℕ-discrete}
 use native.Mathlib.Nat.{not-suc-le-zero, le-of-suc-le-suc}
 use native.Mathlib.Omega.{arith}
 use mathlib.Core.Bool.{Bool, true, false, or-true, true≢false, false≢true}
 use mathlib.Core.List.{List, [], _∷_}
+use lib.Arith.{bin-ind, digits-mod}
+use lib.Bits.{bitOr, or-step, or-comm, or-self, or-shr}
 use lib.ListN.{length, getD, set, replicate, length-set}
 use lib.Seq.{getD-set-same, getD-set-other}
 use borrow.Author.Tests.{eq-eqb, ne-eqb}
@@ -49,22 +51,38 @@ once (x ∷ xs) new =
     rw (elem-none xs x (λ i l e. new (suc i) (suc-le-suc l) 0 (omega arith) (sym e)))
     (once xs (λ i l j k. new (suc i) (suc-le-suc l) (suc j) (suc-le-suc k)))
 
--- ---- the marks of the ids before i
-pub record Marked (ids : List ℕ) (marks : List Bool) (i : ℕ) : Type 0 where
-  pub full : length marks ≡ 4093
-  pub marked : (j : ℕ) → j < i → getD marks (getD ids j 0 % 4093) false ≡ true
+-- ---- bits that are set stay set
+or-odd : (a b : ℕ) → bitOr a b % 2 ≡ max (a % 2) (b % 2)
+or-odd a b = ap (λ (x : ℕ). x % 2) (or-step a b) ∙ digits-mod (bitOr (a / 2) (b / 2)) (omega arith)
+
+or-assoc : (a b c : ℕ) → bitOr (bitOr a b) c ≡ bitOr a (bitOr b c)
+or-assoc = bin-ind (λ (n : ℕ). (b c : ℕ) → bitOr (bitOr n b) c ≡ bitOr n (bitOr b c)) (λ b c. refl) (λ n ih b c. or-step (bitOr n b) c ∙ go n b c (ih (b / 2) (c / 2)) ∙ sym (or-step n (bitOr b c)))
+  where
+    go : (a b c : ℕ) → bitOr (bitOr (a / 2) (b / 2)) (c / 2) ≡ bitOr (a / 2) (bitOr (b / 2) (c / 2)) → bitOr (bitOr a b / 2) (c / 2) * 2 + max (bitOr a b % 2) (c % 2) ≡ bitOr (a / 2) (bitOr b c / 2) * 2 + max (a % 2) (bitOr b c % 2)
+    go a b c h = rw (or-shr a b 1, or-shr b c 1, or-odd a b, or-odd b c, h) (omega arith)
+
+or-own : (a b : ℕ) → bitOr (bitOr a b) b ≡ bitOr a b
+or-own a b = or-assoc a b b ∙ ap (bitOr a) (or-self b)
+
+or-kept : (a b c : ℕ) → bitOr a c ≡ a → bitOr (bitOr a b) c ≡ bitOr a b
+or-kept a b c h = or-assoc a b c ∙ ap (bitOr a) (or-comm b c) ∙ sym (or-assoc a c b) ∙ ap (λ (x : ℕ). bitOr x b) h
+
+-- ---- the cells of the ids before i
+abbrev cellIn : List ℕ → ℕ → ℕ
+cellIn cells id = getD cells (id % 1013) 0
+
+abbrev joined : List ℕ → ℕ → ℕ
+joined cells id = bitOr (cellIn cells id) ((id / 1013 % 65536 * 9 + 49) % 65536)
+
+pub record Shown (ids cells : List ℕ) (i : ℕ) : Type 0 where
+  pub full : length cells ≡ 1013
+  pub shown : (j : ℕ) → j < i → joined cells (getD ids j 0) ≡ cellIn cells (getD ids j 0)
   pub all-new : AllNew ids i
 
-pub unmarked : (ids : List ℕ) → Marked ids (replicate 4093 false) 0
-unmarked ids = record { full = refl; marked = λ j l. absurd (not-suc-le-zero l); all-new = λ j l. absurd (not-suc-le-zero l) }
+pub none-shown : (ids : List ℕ) → Shown ids (replicate 1013 0) 0
+none-shown ids = record { full = refl; shown = λ j l. absurd (not-suc-le-zero l); all-new = λ j l. absurd (not-suc-le-zero l) }
 
 module _ (ids : List ℕ) (i : ℕ) where
-  abbrev markOf : ℕ → ℕ
-  markOf j = getD ids j 0 % 4093
-
-  pub clear-new : (marks : List Bool) → Marked ids marks i → getD marks (markOf i) false ≡ false → New ids i
-  clear-new marks m h j l e = true≢false (sym (m .marked j l) ∙ ap (λ (x : ℕ). getD marks (x % 4093) false) e ∙ h)
-
   module _ (t : Bool) (e : t ≡ isFound (lastBelow ids i (getD ids i 0))) where
     pub unfound-new : i < length ids → t ≡ false → New ids i
     unfound-new h f j l = last-none ids (getD ids i 0) i j (go (lastBelow ids i (getD ids i 0)) (sym e ∙ f)) l (omega arith)
@@ -80,20 +98,30 @@ module _ (ids : List ℕ) (i : ℕ) where
         go (At k) p f = let (l, _, q) = last-at ids (getD ids i 0) i k p in sym (twice ids k i l h q)
         go Nothing p f = absurd (false≢true f)
 
-  pub mark-more : (marks : List Bool) → Marked ids marks i → New ids i → Marked ids (set marks (markOf i) true) (i + 1)
-  mark-more marks m new = record { full = simp length-set (m .full); marked = λ j l. go j l (ℕ-discrete (markOf j) (markOf i)); all-new = λ j l. old j (decLt j i) l }
-    where
-      go : (j : ℕ) → j < i + 1 → Dec (markOf j ≡ markOf i) → getD (set marks (markOf i) true) (markOf j) false ≡ true
-      go j l (yes e) = rw e (getD-set-same marks (markOf i) true false (omega (arith, m .full)))
-      go j l (no n) = getD-set-other marks (markOf i) (markOf j) true false n ∙ m .marked j (before (ℕ-discrete j i))
-        where
-          before : Dec (j ≡ i) → j < i
-          before (yes e) = absurd (n (ap markOf e))
-          before (no n) = omega arith
+  module _ (cells : List ℕ) (m : Shown ids cells i) where
+    abbrev here : ℕ
+    here = getD ids i 0
 
-      old : (j : ℕ) → Dec (j < i) → j < i + 1 → New ids j
-      old j (yes l) k = m .all-new j l
-      old j (no l) k = let e : i ≡ j = omega arith in rw e at new
+    pub unset-new : (joined cells here ≡ cellIn cells here → ⊥) → New ids i
+    unset-new h j l q = h (subst (λ (x : ℕ). joined cells x ≡ cellIn cells x) q (m .shown j l))
 
-  pub marked-once : (marks : List Bool) → Marked ids marks i → length ids ≤ i → false ≡ repeated ids
-  marked-once marks m h = sym (once ids (λ j l. m .all-new j (omega arith)))
+    pub shown-more : New ids i → Shown ids (set cells (here % 1013) (joined cells here)) (i + 1)
+    shown-more new = record { full = simp length-set (m .full); shown = λ j l. go j l (ℕ-discrete j i) (ℕ-discrete (getD ids j 0 % 1013) (here % 1013)); all-new = λ j l. old j l (ℕ-discrete j i) }
+      where
+        after : List ℕ
+        after = set cells (here % 1013) (joined cells here)
+
+        same : cellIn after here ≡ joined cells here
+        same = getD-set-same cells (here % 1013) (joined cells here) 0 (omega (arith, m .full))
+
+        go : (j : ℕ) → j < i + 1 → Dec (j ≡ i) → Dec (getD ids j 0 % 1013 ≡ here % 1013) → joined after (getD ids j 0) ≡ cellIn after (getD ids j 0)
+        go j l (yes q) d = rw (q, same) (or-own (cellIn cells here) ((here / 1013 % 65536 * 9 + 49) % 65536))
+        go j l (no k) (yes c) = rw (c, same) (or-kept (cellIn cells here) ((here / 1013 % 65536 * 9 + 49) % 65536) ((getD ids j 0 / 1013 % 65536 * 9 + 49) % 65536) (rw (← c) (m .shown j (omega arith))))
+        go j l (no k) (no n) = rw (getD-set-other cells (here % 1013) (getD ids j 0 % 1013) (joined cells here) 0 n) (m .shown j (omega arith))
+
+        old : (j : ℕ) → j < i + 1 → Dec (j ≡ i) → New ids j
+        old j l (yes q) = rw q new
+        old j l (no k) = m .all-new j (omega arith)
+
+  pub shown-once : (cells : List ℕ) → Shown ids cells i → length ids ≤ i → false ≡ repeated ids
+  shown-once cells m h = sym (once ids (λ j l. m .all-new j (omega arith)))

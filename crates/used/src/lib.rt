@@ -12,8 +12,8 @@ use refusal::NONE;
 use refusal::OFF_GRID;
 use tables::Found;
 
-// The marks are as many as a prime near 4,096: 256 ids seldom share one.
-const MARKS: u64 = 4093;
+// As many cells as a prime near 1,024 whose reciprocal fits in 64 bits, so that the remainder is quick.
+const CELLS: u64 = 1013;
 
 // Whether an id stands at a place below n.
 fn stands_below(ids: &[u64], n: usize, id: u64) -> bool
@@ -25,21 +25,25 @@ fn stands_below(ids: &[u64], n: usize, id: u64) -> bool
     }
 }
 
-// Whether an id stands twice. An id whose mark is not set is new; for another the ids before it are looked at.
+// Whether an id stands twice. Each id sets bits in its cell; the ids before it are looked at only where all of them are set already.
 pub fn repeats(ids: &[u64]) -> bool
     ensures { λ r. ⌜ r ≡ repeated (now (ids .entry)) ⌝ }
 {
-    let mut marks = [false; 4093];
+    let mut cells = [0u16; 1013];
     let mut i: usize = 0;
     while i < ids.len() {
         let id = ids[i];
-        let mark = (id % MARKS) as usize;
-        if marks[mark] {
+        let cell = (id % CELLS) as usize;
+        // By 9 and 49, of two ids below 4,052 in one cell neither has all the bits of the other.
+        let bits = ((id / CELLS % 65536 * 9 + 49) % 65536) as u16;
+        let seen = cells[cell];
+        let joined = seen | bits;
+        if joined == seen {
             if stands_below(ids, i, id) {
                 return true;
             }
         }
-        marks[mark] = true;
+        cells[cell] = joined;
         i += 1;
     }
     false
