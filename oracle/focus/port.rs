@@ -2,6 +2,25 @@
 pub use crate::foreign::{CACHED, EVENTS, EventFilter, Events, Focus, LayerId, Nav, USED, Used};
 use crate::foreign::*;
 
+/// A function of the core on the fields and tables of a record, and what else it takes.
+macro_rules! in_place {
+    ($call:ident, $focus:ident, $($more:expr),+) => {{
+        let (ids, rects) = (&mut $focus.ids, &mut $focus.rects);
+        let (nav, count) = ($focus.nav, $focus.count);
+        unsafe {
+            $call(
+                nav,
+                ids.as_mut_ptr(),
+                ids.len(),
+                rects.as_mut_ptr(),
+                rects.len(),
+                count,
+                $($more),+
+            )
+        }
+    }};
+}
+
 #[derive(Clone, Copy, PartialEq)]
 pub enum Form {
     Core,
@@ -72,19 +91,7 @@ impl Focus {
     }
 
     pub fn begin_core(&mut self, words: &[u64]) -> u64 {
-        let (ids, rects) = (&self.ids, &self.rects);
-        let r = unsafe {
-            jaturemi_begin_pass(
-                self.nav,
-                ids.as_ptr(),
-                ids.len(),
-                rects.as_ptr(),
-                rects.len(),
-                self.count,
-                words.as_ptr(),
-                words.len(),
-            )
-        };
+        let r = in_place!(jaturemi_begin_pass, self, words.as_ptr(), words.len());
         if r.refusal == 0 {
             self.slot = 0;
         }
@@ -92,19 +99,7 @@ impl Focus {
     }
 
     pub fn interest_core(&mut self, id: u64) -> u64 {
-        let (ids, rects) = (&mut self.ids, &mut self.rects);
-        let r = unsafe {
-            jaturemi_interested_in_focus(
-                self.nav,
-                ids.as_mut_ptr(),
-                ids.len(),
-                rects.as_mut_ptr(),
-                rects.len(),
-                self.count,
-                self.slot,
-                id,
-            )
-        };
+        let r = in_place!(jaturemi_interested_in_focus, self, self.slot, id);
         self.nav = r.nav;
         self.count = r.count;
         self.slot = r.slot;
@@ -113,20 +108,7 @@ impl Focus {
 
     /// An interest call for each id, in a loop of the port itself.
     pub fn interest_in_all(&mut self, page: &[u64]) -> u64 {
-        let (ids, rects) = (&mut self.ids, &mut self.rects);
-        let r = unsafe {
-            jaturemi_interested_in_all(
-                self.nav,
-                ids.as_mut_ptr(),
-                ids.len(),
-                rects.as_mut_ptr(),
-                rects.len(),
-                self.count,
-                self.slot,
-                page.as_ptr(),
-                page.len(),
-            )
-        };
+        let r = in_place!(jaturemi_interested_in_all, self, self.slot, page.as_ptr(), page.len());
         self.nav = r.nav;
         self.count = r.count;
         self.slot = r.slot;
@@ -134,40 +116,22 @@ impl Focus {
     }
 
     pub fn end_core(&mut self, used: &[u64], corners: &[f32]) -> u64 {
-        let (ids, rects) = (&mut self.ids, &mut self.rects);
-        let r = unsafe {
-            jaturemi_end_focus_pass(
-                self.nav,
-                ids.as_mut_ptr(),
-                ids.len(),
-                rects.as_mut_ptr(),
-                rects.len(),
-                self.count,
-                used.as_ptr(),
-                used.len(),
-                corners.as_ptr(),
-                corners.len(),
-                USED,
-            )
-        };
+        let r = in_place!(
+            jaturemi_end_focus_pass,
+            self,
+            used.as_ptr(),
+            used.len(),
+            corners.as_ptr(),
+            corners.len(),
+            USED
+        );
         self.nav = r.nav;
         self.count = r.count;
         r.refusal
     }
 
     pub fn ignore(&mut self, id: u64) -> u64 {
-        let (ids, rects) = (&mut self.ids, &mut self.rects);
-        let r = unsafe {
-            jaturemi_ignore_focus(
-                self.nav,
-                ids.as_mut_ptr(),
-                ids.len(),
-                rects.as_mut_ptr(),
-                rects.len(),
-                self.count,
-                id,
-            )
-        };
+        let r = in_place!(jaturemi_ignore_focus, self, id);
         self.nav = r.nav;
         self.count = r.count;
         r.refusal
