@@ -1,4 +1,6 @@
 // AreaState of egui's containers/area.rs: where an area is. Codes and floats of any value go in; those outside document 01's domain are refused.
+#![tactic(auto)]
+
 ghost use Rattle.std.specs.Prelude.{◌≡◌, ℕ, ℤ, pos};
 ghost use Rattle.refusal.specs.Refusal.{none, lowest};
 ghost use Rattle.floats.specs.Count.{at, count_of};
@@ -12,27 +14,27 @@ use emath::{Pos2, Rect, Vec2};
 use refusal::{LAST_PIVOT, NONE};
 
 // Option<Pos2>: where the pivot was put.
-#[derive(Drop)]
+#[derive(Clone, Copy)]
 pub enum PivotPos {
     Absent,
     At(f32, f32),
 }
 
 // Option<Vec2>: how large the area was.
-#[derive(Drop)]
+#[derive(Clone, Copy)]
 pub enum Size {
     Absent,
     Of(f32, f32),
 }
 
 // Where on the area the pivot is, a code for each axis: 0 low, 1 middle, 2 high.
-#[derive(Drop)]
+#[derive(Clone, Copy)]
 pub struct Align2 {
     pub x: u64,
     pub y: u64,
 }
 
-#[derive(Drop)]
+#[derive(Clone, Copy)]
 pub struct AreaState {
     pub pivot_pos: PivotPos,
     pub pivot: Align2,
@@ -40,19 +42,19 @@ pub struct AreaState {
     pub interactable: bool,
 }
 
-#[derive(Drop)]
+#[derive(Clone, Copy)]
 pub enum PosAnswer {
     Is(Pos2),
     Refused(u64),
 }
 
-#[derive(Drop)]
+#[derive(Clone, Copy)]
 pub enum RectAnswer {
     Is(Rect),
     Refused(u64),
 }
 
-#[derive(Drop)]
+#[derive(Clone, Copy)]
 pub enum StateAnswer {
     Is(AreaState),
     Refused(u64),

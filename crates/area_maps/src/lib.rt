@@ -1,4 +1,6 @@
 // What the record of crate `areas` means: the maps, sets and lists of egui's Areas. There is nothing to run.
+#![tactic(auto)]
+
 ghost use Rattle.std.specs.Prelude.{◌≡◌, ℕ, length};
 ghost use Rattle.refusal.specs.Limits.{layers};
 ghost use Rattle.emath.specs.declared.Pos2.{Pos2};

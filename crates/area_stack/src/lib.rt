@@ -1,5 +1,7 @@
 // The calls that need the layers and the states of their areas, in place on lent tables of any length: the rows of crate `layer_rows` and the map of crate
 // `area_table`. How many rows and states are held goes along by value.
+#![tactic(auto)]
+
 ghost use Rattle.std.specs.Prelude.{◌≡◌, ◌+◌, max, ◌<◌, drop};
 ghost use Rattle.area_table.specs.Table.{table_in, held_of};
 ghost use Rattle.layer_rows.specs.Rows.{held_rows};
@@ -14,15 +16,15 @@ use layers::LayerId;
 use refusal::{FULL, NONE};
 
 // By what number a call is refused, and how many rows and states are then held.
+#[derive(Clone, Copy)]
 #[repr(C)]
-#[derive(Drop)]
 pub struct Changed {
     pub refusal: u64,
     pub count: usize,
     pub states: usize,
 }
 
-#[derive(Drop)]
+#[derive(Clone, Copy)]
 pub enum StateAnswer {
     Nothing,
     Is(AreaState),
@@ -30,14 +32,14 @@ pub enum StateAnswer {
 }
 
 // The next layer of a listing, and the row after it.
-#[derive(Drop)]
+#[derive(Clone, Copy)]
 pub enum NextLayer {
     End,
     Is(usize, LayerId),
 }
 
 // The next of egui's windows, which have a state, and the row after it.
-#[derive(Drop)]
+#[derive(Clone, Copy)]
 pub enum NextWindow {
     End,
     Is(usize, LayerId, AreaState),

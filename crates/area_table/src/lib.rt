@@ -3,6 +3,8 @@
 //     ids:    the id
 //     codes:  five numbers: whether it has a pivot position, the pivot's two codes, whether it has a size, whether it is interactable
 //     floats: four numbers: the pivot position and the size, 0 where it has none
+#![tactic(auto)]
+
 ghost use Rattle.std.specs.Prelude.{◌≡◌, ◌+◌, ◌*◌, ◌≤◌, length};
 ghost use Rattle.tables.specs.Tables.{put_at};
 ghost use Rattle.area_table.specs.Table.{table_in, room_of, held_in, found_in, spot_of, state_in, word, pivot_pos_in, size_in, positioned, sized, codes_of, floats_of, held_of, put_in};
@@ -11,7 +13,7 @@ use area::{Align2, AreaState, PivotPos, Size};
 use tables::Found;
 
 // What the map holds of an id.
-#[derive(Drop)]
+#[derive(Clone, Copy)]
 pub enum Held {
     Vacant,
     Occupied(AreaState),
@@ -61,7 +63,7 @@ fn read(codes: &[u64], floats: &[f32], k: usize) -> AreaState
 }
 
 // Two floats, and 1 where there are any.
-#[derive(Drop)]
+#[derive(Clone, Copy)]
 struct Pair {
     held: u64,
     x: f32,

@@ -1,4 +1,6 @@
 // `Areas` of memory/mod.rs as a record by value, over the functions on lent tables (crate `area_stack` and those below it).
+#![tactic(auto)]
+
 ghost use Rattle.std.specs.Prelude.{◌≡◌};
 ghost use Rattle.refusal.specs.Refusal.{lowest, code_refusal};
 ghost use Rattle.refusal.specs.Limits.{last_order};
@@ -18,7 +20,7 @@ use layers::LayerId;
 use refusal::{LAYERS, NONE};
 
 // How many layers are held, how many of them had a place at the last end of a pass, and how many areas have a state; the rows of the layers, and of the states.
-#[derive(Drop)]
+#[derive(Clone, Copy)]
 pub struct Areas {
     pub count: usize,
     pub placed: usize,
@@ -29,14 +31,14 @@ pub struct Areas {
     pub floats: [f32; 4 * LAYERS],
 }
 
-#[derive(Drop)]
+#[derive(Clone, Copy)]
 pub struct Changed {
     pub refusal: u64,
     pub areas: Areas,
 }
 
 // Layers in stack order, and how many they are; the places after them are blank. No layers where the call is refused.
-#[derive(Drop)]
+#[derive(Clone, Copy)]
 pub struct Layers {
     pub refusal: u64,
     pub count: usize,
@@ -44,13 +46,13 @@ pub struct Layers {
 }
 
 // A window of egui: its layer and the state of its area.
-#[derive(Drop)]
+#[derive(Clone, Copy)]
 pub struct Window {
     pub layer: LayerId,
     pub state: AreaState,
 }
 
-#[derive(Drop)]
+#[derive(Clone, Copy)]
 pub struct Windows {
     pub count: usize,
     pub windows: [Window; LAYERS],

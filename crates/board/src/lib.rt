@@ -1,5 +1,7 @@
 // What a C or Rust program on the board links against: numbers and slices in, a number out. A slice is two arguments in C, where it
 // starts and how many elements it has. Each function gives what the one that it calls gives.
+#![tactic(auto)]
+
 ghost use Rattle.std.specs.Prelude.{◌≡◌, ◌/◌, min, length};
 ghost use Rattle.widget_rows.specs.Rows.{table_in};
 ghost use Rattle.widget_table.specs.Table.{refusal_of, insert_of, cleared_cells};

@@ -1,5 +1,7 @@
 // The focus for C and Rust programs, as crate `board` has the rest: numbers, records of numbers and slices. A slice is two arguments in C, where it starts and how
 // many elements it has. Each function gives what the one that it calls gives.
+#![tactic(auto)]
+
 ghost use Rattle.std.specs.Prelude.{◌≡◌};
 ghost use Rattle.refusal.specs.Refusal.{id_refusal, code_refusal, kept};
 ghost use Rattle.refusal.specs.Limits.{last_direction};

@@ -1,4 +1,6 @@
 // Interest calls for a whole page in one call, for C and Rust programs. It stands alone in its library, so that the loop has the core inside it.
+#![tactic(auto)]
+
 ghost use Rattle.std.specs.Prelude.{◌≡◌};
 ghost use Rattle.board_page.specs.Page.{page_in, wanted, wanted_all};
 

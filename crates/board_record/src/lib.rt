@@ -1,4 +1,6 @@
 // The focus record by value for C and Rust programs. Its forms that borrow it are exported by crate `focus` itself.
+#![tactic(auto)]
+
 ghost use Rattle.std.specs.Prelude.{◌≡◌};
 ghost use Rattle.focus.specs.Focus.{begun_of, interested_of, ended_of};
 

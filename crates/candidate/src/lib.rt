@@ -1,5 +1,7 @@
 // What find_widget_in_direction of memory/mod.rs says of one candidate: how far away it is on each axis, whether it lies in the cone of the
 // search, and its score. Any f32 goes in.
+#![tactic(auto)]
+
 ghost use Rattle.std.specs.Prelude.{◌≡◌, false, ℕ, ◌≤◌, ℤ, pos, nat_abs};
 ghost use Rattle.refusal.specs.Refusal.{none};
 ghost use Rattle.floats.specs.Count.{at, count_of};
@@ -14,7 +16,7 @@ use emath::{Rangef, Rect, Vec2};
 use input::{DOWN, LEFT, RIGHT, UP};
 
 // Outside the cone, or a score: the smaller, the better.
-#[derive(Drop)]
+#[derive(Clone, Copy)]
 pub enum Judged {
     Outside,
     Score(f32),

@@ -1,5 +1,7 @@
 // Runs the leaves at their limits and prints what each call answers, a line each; the file stdout has what must come out.
 // A refusal is printed as 'no' and its number.
+#![tactic(auto)]
+
 mod registry;
 mod searches;
 mod stack;

@@ -1,4 +1,6 @@
 // The part of emath that the panel's memory leans on: positions, vectors, ranges and rectangles of f32. Any f32 is taken.
+#![tactic(auto)]
+
 ghost use Rattle.std.specs.Prelude.{◌≡◌, cond, ℕ, ◌<◌, ℤ, Float};
 ghost use Rattle.std.specs.Int.Signed.{lt_z};
 ghost use Rattle.floats.specs.Count.{at, count_of};
@@ -6,27 +8,27 @@ ghost use Rattle.emath.specs.Pos2.{round_pos};
 ghost use Rattle.emath.specs.Range.{max_f, min_f, span_of, center_of, intersection_of};
 ghost use Rattle.emath.specs.Rect.{everything, from_min_size, contains_pos, x_range, y_range, round_rect};
 
+#[derive(Clone, Copy)]
 #[repr(C)]
-#[derive(Drop)]
 pub struct Pos2 {
     pub x: f32,
     pub y: f32,
 }
 
-#[derive(Drop)]
+#[derive(Clone, Copy)]
 pub struct Vec2 {
     pub x: f32,
     pub y: f32,
 }
 
-#[derive(Drop)]
+#[derive(Clone, Copy)]
 pub struct Rangef {
     pub min: f32,
     pub max: f32,
 }
 
+#[derive(Clone, Copy)]
 #[repr(C)]
-#[derive(Drop)]
 pub struct Rect {
     pub min: Pos2,
     pub max: Pos2,

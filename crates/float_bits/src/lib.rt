@@ -1,11 +1,13 @@
 // An f32 as its bit pattern. Rattle's own from_bits and to_bits have no NaN; here every pattern and every float is taken.
+#![tactic(auto)]
+
 ghost use Rattle.std.specs.Prelude.{◌≡◌, ℕ, false, T, Float};
 ghost use Rattle.std.specs.Float.{binary32};
 ghost use Rattle.std.specs.Float.Ieee.{fits, is_nan};
 ghost use Rattle.float_bits.specs.Pattern.{float_of, bits_of};
 
 // A float's pattern. Every NaN is one and the same.
-#[derive(Drop)]
+#[derive(Clone, Copy)]
 pub enum Bits {
     Pattern(u64),
     Nan,

@@ -1,5 +1,7 @@
 // f32 as whole numbers of steps: sums, differences, products, halves and the order of numbers on a grid are exact, and are those of
 // the whole numbers. Each law is the contract of an empty function; there is nothing to run.
+#![tactic(auto)]
+
 ghost use Rattle.std.specs.Prelude.{◌≡◌, ℕ, ◌+◌, ◌*◌, ◌^◌, ◌≤◌, ◌<◌, ℤ, nat_abs, ◌+ℤ◌, ◌-ℤ◌, ◌*ℤ◌, Float};
 ghost use Rattle.std.specs.Int.Signed.{lt_z, le_z};
 ghost use Rattle.std.specs.Float.{binary32};

@@ -1,4 +1,6 @@
 // `Focus` of memory/mod.rs as a record by value over the core in place (crates `focus_calls`, `focus_pass`, `focus_end`), and thin forms of begin, interest and end that borrow it to write it.
+#![tactic(auto)]
+
 ghost use Rattle.std.specs.Prelude.{◌≡◌, eqb};
 ghost use Rattle.refusal.specs.Refusal.{id_refusal, kept};
 ghost use Rattle.layer_queries.specs.Queries.{flag_answer};
@@ -12,8 +14,8 @@ use layers::LayerId;
 use refusal::{BAD_LIST, CACHED, EVENTS, NONE, USED};
 
 // The fields, the entries of the cache and how many they are, and the place where an interest call looks first.
+#[derive(Clone, Copy)]
 #[repr(C)]
-#[derive(Drop)]
 pub struct Focus {
     pub nav: Nav,
     pub ids: [u64; CACHED],
@@ -23,16 +25,16 @@ pub struct Focus {
 }
 
 // The events that begin a pass: how many they are, and four numbers for each, as `focus_pass` has them.
+#[derive(Clone, Copy)]
 #[repr(C)]
-#[derive(Drop)]
 pub struct Events {
     pub words: [u64; 4 * EVENTS],
     pub count: usize,
 }
 
 // The used entries that end a pass: how many they are, their ids, and four corners for each.
+#[derive(Clone, Copy)]
 #[repr(C)]
-#[derive(Drop)]
 pub struct Used {
     pub ids: [u64; USED],
     pub corners: [f32; 4 * USED],
@@ -40,8 +42,8 @@ pub struct Used {
 }
 
 // The record after a call, and its refusal.
+#[derive(Clone, Copy)]
 #[repr(C)]
-#[derive(Drop)]
 pub struct Done {
     pub focus: Focus,
     pub refusal: u64,

@@ -2,6 +2,8 @@
 // which they came. How many are held goes along by value.
 //     ids:   the id
 //     rects: four numbers: left, top, right, bottom
+#![tactic(auto)]
+
 ghost use Rattle.std.specs.Prelude.{◌≡◌, length};
 ghost use Rattle.refusal.specs.Refusal.{kept};
 ghost use Rattle.focus_cache.specs.Cache.{room_in, held_in, has_id, without, enlisted, cache_in, cache_on, rect_at, put_in, enlisted_of};
@@ -11,7 +13,7 @@ use refusal::{FULL, NONE};
 use tables::Found;
 
 // A refusal, how many entries are held, and the place where the next call looks first.
-#[derive(Drop)]
+#[derive(Clone, Copy)]
 pub struct Enlisted {
     pub refusal: u64,
     pub count: usize,

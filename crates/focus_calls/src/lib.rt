@@ -1,4 +1,6 @@
 // The focus's calls outside of a pass's begin, interest and end, most of them `Memory`'s in memory/mod.rs, on the fields by value. Id 0 is none.
+#![tactic(auto)]
+
 ghost use Rattle.std.specs.Prelude.{◌≡◌, eqb};
 ghost use Rattle.refusal.specs.Refusal.{id_refusal, code_refusal};
 ghost use Rattle.refusal.specs.Limits.{last_direction};

@@ -1,5 +1,7 @@
 // `Focus::end_pass` and `find_widget_in_direction` of memory/mod.rs, in place: the used entries in lent slices (crate `used`), the cache in lent tables
 // (crate `focus_cache`).
+#![tactic(auto)]
+
 ghost use Rattle.std.specs.Prelude.{◌≡◌, false, ◌*◌, ◌≤◌, ◌<◌, length, get_or};
 ghost use Rattle.refusal.specs.Refusal.{kept};
 ghost use Rattle.search.specs.Search.{table_of};
@@ -14,8 +16,8 @@ use refusal::NONE;
 use tables::Found;
 
 // A call's refusal, the fields after it, and how many entries the cache holds.
+#[derive(Clone, Copy)]
 #[repr(C)]
-#[derive(Drop)]
 pub struct Ended {
     pub refusal: u64,
     pub nav: Nav,
@@ -23,21 +25,21 @@ pub struct Ended {
 }
 
 // How far the cache is up to date: how many entries are kept, and where among the used ones the next is looked for first.
-#[derive(Drop)]
+#[derive(Clone, Copy)]
 struct Kept {
     count: usize,
     next: usize,
 }
 
 // The rectangle of an id that the cache holds.
-#[derive(Drop)]
+#[derive(Clone, Copy)]
 pub enum CachedRect {
     Absent,
     At(Rect),
 }
 
 // What the search found, 0 for nothing, and how many entries the cache holds.
-#[derive(Drop)]
+#[derive(Clone, Copy)]
 struct Searched {
     found: u64,
     count: usize,

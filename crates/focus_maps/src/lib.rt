@@ -1,4 +1,6 @@
 // What the focus record means in egui's own terms, its options and its map: theorems only, nothing to run.
+#![tactic(auto)]
+
 ghost use Rattle.std.specs.Prelude.{◌≡◌, false, ℕ, eqb};
 ghost use Rattle.refusal.specs.Limits.{cached};
 ghost use Rattle.refusal.specs.Refusal.{id_refusal};

@@ -4,6 +4,8 @@
 //     1, a key        its code, 1 where it is pressed plus 2 where it is a repeat (modulo 4), its modifiers
 //     2, a request    the id for which an accessibility program asks the focus
 //     any other       an event that moves no focus
+#![tactic(auto)]
+
 ghost use Rattle.std.specs.Prelude.{◌≡◌, ◌≤◌};
 ghost use Rattle.refusal.specs.Refusal.{lowest, none, kept};
 ghost use Rattle.input.specs.Event.{event_refusal};
@@ -17,8 +19,8 @@ use input::{Event, EventFilter};
 use refusal::{BAD_LIST, EVENTS, NONE, ZERO_ID};
 
 // An interest call's refusal, the fields after it, how many entries are held, and the place where the next call looks first.
+#[derive(Clone, Copy)]
 #[repr(C)]
-#[derive(Drop)]
 pub struct Interested {
     pub refusal: u64,
     pub nav: Nav,
@@ -27,8 +29,8 @@ pub struct Interested {
 }
 
 // A call's refusal, the fields after it, and how many entries are held.
+#[derive(Clone, Copy)]
 #[repr(C)]
-#[derive(Drop)]
 pub struct Ignored {
     pub refusal: u64,
     pub nav: Nav,
@@ -88,7 +90,7 @@ fn event(words: &[u64], at: usize) -> Event
     )
 }
 
-#[derive(Drop)]
+#[derive(Clone, Copy)]
 struct Listened {
     refusal: u64,
     heard: Heard,

@@ -1,5 +1,7 @@
 // `Focus` of memory/mod.rs without its cache: its fields as numbers and flags by value, in specs/ the rules by which a call changes them, and the laws of a whole page of interest calls. Id 0 is none.
 // There is nothing to run.
+#![tactic(auto)]
+
 ghost use Rattle.std.specs.Prelude.{◌≡◌, true, false, List, [], ◌∷◌, ◌++◌, ℕ};
 ghost use Rattle.input.specs.FocusDirection.{previous, next, no_direction};
 ghost use Rattle.focus_rules.specs.declared.Nav.{Nav};
@@ -12,8 +14,8 @@ use layers::LayerId;
 // FocusDirection::None.
 pub const NO_DIRECTION: u64 = 6;
 
+#[derive(Clone, Copy)]
 #[repr(C)]
-#[derive(Drop)]
 pub struct Nav {
     // The focused widget with its filter, which counts only where there is one.
     pub focused: u64,
@@ -28,21 +30,21 @@ pub struct Nav {
     pub top_modal_layer_current_frame: LayerId,
 }
 
-#[derive(Drop)]
+#[derive(Clone, Copy)]
 pub enum FocusWidget {
     Absent,
     Held(u64, EventFilter),
 }
 
-#[derive(Drop)]
+#[derive(Clone, Copy)]
 pub enum IdAnswer {
     Nothing,
     Is(u64),
 }
 
 // A call's refusal, and the fields after it.
+#[derive(Clone, Copy)]
 #[repr(C)]
-#[derive(Drop)]
 pub struct Changed {
     pub refusal: u64,
     pub nav: Nav,
@@ -50,7 +52,7 @@ pub struct Changed {
 
 // What the events of a pass come to: 1 where Escape lets the focus go, the direction, and the id last asked for. Three numbers: the bytes that a flag would leave unused
 // cost more than the rest of the loop over the events.
-#[derive(Drop)]
+#[derive(Clone, Copy)]
 pub struct Heard {
     pub escaped: u64,
     pub direction: u64,

@@ -1,5 +1,7 @@
 // Document 01's grid: which corners, sizes, pivot positions and rectangles are taken, and by what number the others are refused.
 // Any f32 goes in, NaN and the infinities too.
+#![tactic(auto)]
+
 ghost use Rattle.std.specs.Prelude.{◌≡◌, ℕ, ◌*◌, ◌≤◌, ℤ, pos, nat_abs, Float};
 ghost use Rattle.std.specs.Float.{binary32};
 ghost use Rattle.std.specs.Float.Ieee.{of_bits, add, sub, eq};

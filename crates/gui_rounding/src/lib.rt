@@ -1,4 +1,6 @@
 // emath's gui_rounding.rs: positions are rounded to 1/32 of a point.
+#![tactic(auto)]
+
 ghost use Rattle.std.specs.Prelude.{◌≡◌, ◌^◌, ◌<◌, ℤ, if◌then◌else◌, from_bits, unsigned_abs, Float};
 ghost use Rattle.std.specs.Float.{binary32};
 ghost use Rattle.std.specs.Float.Ieee.{lt};

@@ -1,5 +1,7 @@
 // The panel's input: egui's data/input (events, modifiers, the event filter), its key numbers, and what a key does to the focus.
 // `matches` and `Event::refusal` refuse codes past the last of their kind; the functions on numbers below them are leaves, total for any number.
+#![tactic(auto)]
+
 ghost use Rattle.std.specs.Prelude.{◌≡◌, cond};
 ghost use Rattle.input.specs.Event.{event_refusal};
 ghost use Rattle.input.specs.EventFilter.{default_filter, matches_key, matches_of, matched_answer};
@@ -21,7 +23,7 @@ pub const PREVIOUS: u64 = 4;
 
 pub const NEXT: u64 = 5;
 
-#[derive(Drop)]
+#[derive(Clone, Copy)]
 pub enum Event {
     Key {
         key: u64,
@@ -37,8 +39,8 @@ pub enum Event {
 }
 
 // Which keys the focused widget keeps for itself.
+#[derive(Clone, Copy)]
 #[repr(C)]
-#[derive(Drop)]
 pub struct EventFilter {
     pub tab: bool,
     pub horizontal_arrows: bool,
@@ -46,14 +48,14 @@ pub struct EventFilter {
     pub escape: bool,
 }
 
-#[derive(Drop)]
+#[derive(Clone, Copy)]
 pub enum Matched {
     Is(bool),
     Refused(u64),
 }
 
 // What a pressed key does to the focus.
-#[derive(Drop)]
+#[derive(Clone, Copy)]
 pub enum Navigation {
     Unchanged,
     Direction(u64),

@@ -1,4 +1,6 @@
 // The queries of `Areas` (memory/mod.rs) that ask only the layers, on the rows of crate `layer_rows`.
+#![tactic(auto)]
+
 ghost use Rattle.core.specs.Prelude.{◌≡◌, ◌+◌};
 ghost use Rattle.refusal.specs.Refusal.{lowest, code_refusal};
 ghost use Rattle.refusal.specs.Limits.{last_order};
@@ -10,13 +12,13 @@ use layer_rows::Row;
 use layers::LayerId;
 use refusal::{LAST_ORDER, NONE};
 
-#[derive(Drop)]
+#[derive(Clone, Copy)]
 pub enum FlagAnswer {
     Is(bool),
     Refused(u64),
 }
 
-#[derive(Drop)]
+#[derive(Clone, Copy)]
 pub enum LayerAnswer {
     Nothing,
     Is(LayerId),
@@ -24,14 +26,14 @@ pub enum LayerAnswer {
 }
 
 // core::cmp::Ordering: 0 less, 1 equal, 2 greater.
-#[derive(Drop)]
+#[derive(Clone, Copy)]
 pub enum OrderingAnswer {
     Is(u64),
     Refused(u64),
 }
 
 // Which layers a listing has.
-#[derive(Drop)]
+#[derive(Clone, Copy)]
 pub enum Listing {
     All,
     Visible,

@@ -2,13 +2,15 @@
 // along by value. A row is eight numbers:
 //     Order and id; whether it was shown this pass, shown the last pass, raised this pass; the id of its parent this pass, which has its Order, or 0;
 //     where its area's state is looked for first; a key, while rows are sorted
+#![tactic(auto)]
+
 ghost use Rattle.std.specs.Prelude.{◌≡◌, ◌+◌, ◌*◌, ◌≤◌, min, ◌/◌, length, get_or};
 ghost use Rattle.tables.specs.Tables.{put_at};
 ghost use Rattle.layer_rows.specs.Rows.{row_in, words_of, new_row, spot_in, row_of, held_rows};
 
 use layers::LayerId;
 
-#[derive(Drop)]
+#[derive(Clone, Copy)]
 pub struct Row {
     pub layer: LayerId,
     pub shown: u64,

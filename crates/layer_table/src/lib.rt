@@ -1,4 +1,6 @@
 // The calls of `Areas` (memory/mod.rs) that change only the layers, `move_to_top` and `set_sublayer`, in place on the rows of crate `layer_rows`.
+#![tactic(auto)]
+
 ghost use Rattle.std.specs.Prelude.{◌≡◌, ◌+◌, max, ◌<◌, ◌≤◌, length};
 ghost use Rattle.stacking.specs.Lists.{some};
 ghost use Rattle.layer_rows.specs.Rows.{held_rows, rows_on, marked};
@@ -11,8 +13,8 @@ use layers::LayerId;
 use refusal::{BAD_FAMILY, BAD_PAIR, FULL, NONE};
 
 // By what number a call is refused, and how many rows are then held.
+#[derive(Clone, Copy)]
 #[repr(C)]
-#[derive(Drop)]
 pub struct Stacked {
     pub refusal: u64,
     pub count: usize,

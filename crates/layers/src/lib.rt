@@ -1,11 +1,13 @@
 // layers.rs: a layer is an Order and an id.
+#![tactic(auto)]
+
 ghost use Rattle.std.specs.Prelude.{◌≡◌};
 ghost use Rattle.layers.specs.Layers.{is_layer, layer_refusal};
 
 use refusal::LAST_ORDER;
 
+#[derive(Clone, Copy)]
 #[repr(C)]
-#[derive(Drop)]
 pub struct LayerId {
     pub order: u64,
     pub id: u64,

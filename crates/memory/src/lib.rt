@@ -1,5 +1,7 @@
 // `Memory` of memory/mod.rs as a record by value, over the functions in place (crates `memory_core`, `memory_fields`, `memory_popups`): its passes, its focus and its flags. Crate `memory_areas`
 // has the calls on its layers and areas.
+#![tactic(auto)]
+
 ghost use Rattle.std.specs.Prelude.{◌≡◌, true};
 ghost use Rattle.area_table.specs.Table.{table_in};
 ghost use Rattle.focus_cache.specs.Cache.{cache_in};

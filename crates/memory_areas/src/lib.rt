@@ -1,4 +1,6 @@
 // `Memory` of memory/mod.rs as a record by value: the calls on its layers and areas, those of `Areas` passed through.
+#![tactic(auto)]
+
 ghost use Rattle.std.specs.Prelude.{◌≡◌};
 ghost use Rattle.refusal.specs.Refusal.{lowest, code_refusal};
 ghost use Rattle.refusal.specs.Limits.{last_order};

@@ -1,5 +1,7 @@
 // `Memory` of memory/mod.rs in place: begin, interest, end and the modal layer. Its fields go by value; the rows of the layers and the cache are lent tables of any length. A contract leaves
 // open what the tables are that its function does not get.
+#![tactic(auto)]
+
 ghost use Rattle.std.specs.Prelude.{◌≡◌, not, ◌&&◌, ◌||◌, List, ℕ, eqb};
 ghost use Rattle.area_table.specs.Table.{Table};
 ghost use Rattle.layer_rows.specs.Rows.{held_rows};

@@ -1,4 +1,6 @@
 // The calls of `Memory` (memory/mod.rs) that need none of its tables: the fields go in and come back by value. What the tables are is left open in each contract.
+#![tactic(auto)]
+
 ghost use Rattle.std.specs.Prelude.{◌≡◌, true, not, ◌&&◌, ◌||◌, eqb, List, ℕ};
 ghost use Rattle.refusal.specs.Refusal.{id_refusal};
 ghost use Rattle.area_table.specs.Table.{Table};

@@ -1,4 +1,6 @@
 // What the record `Memory` means in egui's own terms: theorems only, nothing to run.
+#![tactic(auto)]
+
 ghost use Rattle.core.specs.Prelude.{◌≡◌};
 ghost use Rattle.refusal.specs.Limits.{layers, cached};
 ghost use Rattle.memory_rules.specs.Calls.{Call, done_by};

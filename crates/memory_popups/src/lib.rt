@@ -1,4 +1,6 @@
 // The popup of `Memory` (memory/mod.rs), over its fields by value: at most one is open, and id 0 is none. What the tables are is left open in each contract.
+#![tactic(auto)]
+
 ghost use Rattle.std.specs.Prelude.{◌≡◌, ◌||◌, List, eqb, ℕ};
 ghost use Rattle.refusal.specs.Refusal.{id_refusal};
 ghost use Rattle.layer_queries.specs.Queries.{flag_answer};

@@ -1,4 +1,6 @@
 // `Memory` of memory/mod.rs: its types and, in specs/, what each of its calls does. The functions are in crates `memory_core`, in place, and `memory`, by value: there is nothing to run here.
+#![tactic(auto)]
+
 ghost use Rattle.std.specs.Prelude.{◌≡◌};
 ghost use Rattle.memory_rules.specs.declared.Memory.{Memory};
 ghost use Rattle.memory_rules.specs.Calls.{Call, done_by};
@@ -9,8 +11,8 @@ use focus::Focus;
 use focus_rules::Nav;
 
 // OpenPopup, where its id is not 0: its position, which counts only where it has one, and whether it was opened or kept in this pass.
+#[derive(Clone, Copy)]
 #[repr(C)]
-#[derive(Drop)]
 pub struct Popup {
     pub id: u64,
     pub has_pos: bool,
@@ -19,21 +21,21 @@ pub struct Popup {
 }
 
 // Option<Pos2> of `open_popup_at`.
-#[derive(Drop)]
+#[derive(Clone, Copy)]
 pub enum PopupPos {
     Absent,
     At(f32, f32),
 }
 
 // What one viewport has of its own.
-#[derive(Drop)]
+#[derive(Clone, Copy)]
 pub struct Viewport {
     pub areas: Areas,
     pub focus: Focus,
     pub popup: Popup,
 }
 
-#[derive(Drop)]
+#[derive(Clone, Copy)]
 pub struct Memory {
     pub viewport: Viewport,
     pub requested_interrupt_ime: bool,
@@ -42,8 +44,8 @@ pub struct Memory {
 
 // All of it but the tables: the focus's fields, how many ids are cached and where an interest call looks first; how many layers there are, how many of them have a place, and how many areas
 // have a state; the popup and the flags.
+#[derive(Clone, Copy)]
 #[repr(C)]
-#[derive(Drop)]
 pub struct Fields {
     pub nav: Nav,
     pub cached: usize,
@@ -57,27 +59,27 @@ pub struct Fields {
 }
 
 // What a call leaves, and its refusal: of the record, and of the fields.
-#[derive(Drop)]
+#[derive(Clone, Copy)]
 pub struct Done {
     pub memory: Memory,
     pub refusal: u64,
 }
 
+#[derive(Clone, Copy)]
 #[repr(C)]
-#[derive(Drop)]
 pub struct Changed {
     pub fields: Fields,
     pub refusal: u64,
 }
 
-#[derive(Drop)]
+#[derive(Clone, Copy)]
 pub enum PositionAnswer {
     Nothing,
     Is(Pos2),
     Refused(u64),
 }
 
-#[derive(Drop)]
+#[derive(Clone, Copy)]
 pub enum AreaRectAnswer {
     Nothing,
     Is(Rect),

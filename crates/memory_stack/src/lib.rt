@@ -1,5 +1,7 @@
 // `Memory` of memory/mod.rs in place: the calls on its layers and areas. Its fields go by value; the rows of the layers and the map of the area states are lent tables of any length. A
 // contract leaves open what the tables are that its function does not get.
+#![tactic(auto)]
+
 ghost use Rattle.std.specs.Prelude.{◌≡◌, List, ℕ};
 ghost use Rattle.area_table.specs.Table.{Table, table_in};
 ghost use Rattle.layer_queries.specs.declared.LayerAnswer.TheVariants.{Is};

@@ -1,4 +1,6 @@
 // What begin, interest and end of a pass do to the fields of `Focus` of memory/mod.rs, its cache apart: each rule by value. Id 0 is none.
+#![tactic(auto)]
+
 ghost use Rattle.std.specs.Prelude.{◌≡◌};
 ghost use Rattle.focus_rules.specs.Rules.{focused_widget, filter_of, focus_on, started_of, heard_of, turned_by, begun_of, gives, is_idle, interested_of, found_of, ended_of};
 

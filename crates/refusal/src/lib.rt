@@ -1,4 +1,6 @@
 // The refusals of document 01 and the limits behind them, each number under one name (those that code uses so far), and how refusals join.
+#![tactic(auto)]
+
 ghost use Rattle.std.specs.Prelude.{◌≡◌};
 ghost use Rattle.refusal.specs.Refusal.{lowest, id_refusal, code_refusal};
 

@@ -78,7 +78,7 @@ fn stateless(line: &[u8]) -> Reply {
 }
 
 // The answer to a line, how many widgets are then held, and the memory.
-#[derive(Drop)]
+#[derive(Clone, Copy)]
 pub struct Answered {
     pub reply: Reply,
     pub count: usize,
@@ -152,7 +152,7 @@ fn asked(line: &[u8], m: Memory) -> Reply {
 }
 
 // How many widgets are held, and the memory.
-#[derive(Drop)]
+#[derive(Clone, Copy)]
 pub struct State {
     pub count: usize,
     pub memory: Memory,

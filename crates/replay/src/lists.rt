@@ -46,7 +46,7 @@ fn with_event(e: Events, i: usize, n: [u64; 4]) -> Events {
 }
 
 // The events that follow a place; whether they fit, and end the line.
-#[derive(Drop)]
+#[derive(Clone, Copy)]
 struct EventList {
     events: Events,
     fit: bool,
@@ -108,7 +108,7 @@ fn with_used(u: Used, i: usize, v: [u64; 20]) -> Used {
     out
 }
 
-#[derive(Drop)]
+#[derive(Clone, Copy)]
 struct UsedList {
     used: Used,
     fit: bool,

@@ -1,4 +1,6 @@
 // Answers the lines of ../shared/REPLAY.md from standard input, one line each, from the proved libraries. The state is in tables that are lent down to the calls; how many widgets are held goes along by value.
+#![tactic(auto)]
+
 ghost use Rattle.std.specs.Prelude.{◌≡◌, length};
 
 mod calls;
@@ -28,7 +30,7 @@ fn output() -> [u8; 262144]
 
 // How much of the line's buffer is taken, past its end where the line does not fit, how much of the output, how many widgets are held, and
 // the memory.
-#[derive(Drop)]
+#[derive(Clone, Copy)]
 struct Progress {
     held: usize,
     used: usize,
@@ -159,7 +161,7 @@ fn take_chunk(
 }
 
 // A round: what is read, and whether the input has ended.
-#[derive(Drop)]
+#[derive(Clone, Copy)]
 struct Round {
     now: Progress,
     ended: bool,

@@ -11,7 +11,7 @@ use memory_rules::{AreaRectAnswer, Done, Memory, PositionAnswer};
 use refusal::NONE;
 
 // What a call is answered, and the memory after it.
-#[derive(Drop)]
+#[derive(Clone, Copy)]
 pub struct Told {
     pub reply: Reply,
     pub memory: Memory,

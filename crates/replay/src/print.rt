@@ -10,7 +10,7 @@ use widget_rect::WidgetRect;
 use widget_rows::Listed;
 
 // What a line is answered: Bad where it does not fit the protocol.
-#[derive(Drop)]
+#[derive(Clone, Copy)]
 pub enum Reply {
     Bad,
     Done,

@@ -126,7 +126,7 @@ pub fn float(n: u64) -> f32 {
 }
 
 // An event, and the place after it.
-#[derive(Drop)]
+#[derive(Clone, Copy)]
 pub enum EventWords {
     Is(Event, usize),
     Bad,
@@ -222,7 +222,7 @@ pub fn rect_words(r: Rect) -> [u64; 20] {
 }
 
 // A flag and two floats, 0 where they are not held.
-#[derive(Drop)]
+#[derive(Clone, Copy)]
 struct Held {
     flag: u64,
     x: u64,

@@ -2,7 +2,7 @@
 use text::{Numeral, Place};
 
 // The words read, as numbers, how many they are, and the place after them; whether all of them fit their kinds.
-#[derive(Drop)]
+#[derive(Clone, Copy)]
 pub struct Words {
     pub v: [u64; 20],
     pub count: usize,
@@ -80,7 +80,7 @@ fn first(line: &[u8], w: &[u8]) -> Place {
 }
 
 // A call by its number in a table, and its plain words.
-#[derive(Drop)]
+#[derive(Clone, Copy)]
 pub struct Called {
     pub number: usize,
     pub words: Words,

@@ -1,4 +1,6 @@
 // Demand 3, the ring: theorems only, nothing to run. What they mean is in specs/: Ring.antt has the premises, Count.antt the count, Instance.antt a page.
+#![tactic(auto)]
+
 ghost use Rattle.std.specs.Prelude.{◌≡◌, List, ℕ};
 ghost use Rattle.focus_rules.specs.Rules.{id_or_nothing};
 ghost use Rattle.focus_rules.specs.declared.IdAnswer.TheVariants.{Is};

@@ -1,4 +1,6 @@
 // The whole part of a square root.
+#![tactic(auto)]
+
 ghost use Rattle.std.specs.Prelude.{◌≡◌, ℕ};
 ghost use Rattle.root.specs.Root.{IsRoot};
 

@@ -1,4 +1,6 @@
 // find_widget_in_direction of memory/mod.rs, once the cache is up to date: the best candidate of a lent table.
+#![tactic(auto)]
+
 ghost use Rattle.std.specs.Prelude.{◌≡◌, true, ℕ, min, List, []};
 ghost use Rattle.emath.specs.declared.Rect.{Rect};
 ghost use Rattle.search.specs.declared.Candidate.{Candidate};
@@ -9,14 +11,14 @@ ghost use Rattle.search.specs.Walk.{nothing_yet, step_of};
 use candidate::Judged;
 use emath::{Pos2, Rect};
 
-#[derive(Drop)]
+#[derive(Clone, Copy)]
 pub struct Candidate {
     pub id: u64,
     pub rect: Rect,
 }
 
 // A candidate in the cone.
-#[derive(Drop)]
+#[derive(Clone, Copy)]
 pub struct Scored {
     pub score: f32,
     pub candidate: Candidate,

@@ -1,4 +1,6 @@
 // The laws of the stack after a pass. There is nothing to run.
+#![tactic(auto)]
+
 ghost use Rattle.std.specs.Prelude.{◌≡◌, Bool, true, not, ◌&&◌, List, ◌∷◌, ◌++◌, ℕ, eqb};
 ghost use Rattle.layers.specs.declared.LayerId.{LayerId};
 ghost use Rattle.stacking.specs.Lists.{keep};

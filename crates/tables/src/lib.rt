@@ -1,8 +1,10 @@
 // Tables in lent slices of numbers: where a number stands, a row put at a place, a row taken out of a tail. Total for every place and length.
+#![tactic(auto)]
+
 ghost use Rattle.std.specs.Prelude.{◌≡◌, ◌+◌, min, leb, length, get_or, drop, set, replicate};
 ghost use Rattle.tables.specs.Tables.{first_from, last_below, nearest, after, put_at, closed};
 
-#[derive(Drop)]
+#[derive(Clone, Copy)]
 pub enum Found {
     At(usize),
     Nothing,

@@ -1,18 +1,20 @@
 // Words and numbers of a line of bytes, read at a place of it, and put at a place of a lent buffer.
 // Every function is total, for every slice and every place: past the end no byte stands, and no room is left.
+#![tactic(auto)]
+
 ghost use Rattle.std.specs.Prelude.{◌≡◌, ℕ, ◌+◌, ◌-◌, ◌≤◌, ◌%◌, max, min, List, [], ◌++◌, length, drop, get_or};
 ghost use Rattle.text.specs.Put.{place_after, put_on, decimal_of};
 ghost use Rattle.text.specs.Read.{is_digit, digits_of, value_at, number_at, skip_at, word_at, argument_at, find_from};
 
 // The value of a decimal number, and the place after its last digit.
-#[derive(Drop)]
+#[derive(Clone, Copy)]
 pub enum Numeral {
     Value(u64, usize),
     Bad,
 }
 
 // The place after what was looked for.
-#[derive(Drop)]
+#[derive(Clone, Copy)]
 pub enum Place {
     At(usize),
     Bad,
@@ -168,7 +170,7 @@ pub fn put_bytes(out: &mut [u8], at: usize, s: &[u8]) -> usize
 }
 
 // The digits of a number, at the end of an array.
-#[derive(Drop)]
+#[derive(Clone, Copy)]
 struct Written {
     text: [u8; 20],
     start: usize,

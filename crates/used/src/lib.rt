@@ -1,4 +1,6 @@
 // The used entries that end a pass, the map `used_ids` of memory/mod.rs, in lent slices: their ids, and four corners for each id, left, top, right and bottom.
+#![tactic(auto)]
+
 ghost use Rattle.std.specs.Prelude.{◌≡◌, ◌*◌};
 ghost use Rattle.refusal.specs.Refusal.{none};
 ghost use Rattle.grid.specs.Grid.{rect_refusal};

@@ -1,4 +1,6 @@
 // emath's vec2.rs, as far as the search needs it. Any f32 goes in.
+#![tactic(auto)]
+
 ghost use Rattle.std.specs.Prelude.{◌≡◌, ◌+◌, ◌*◌, ◌^◌, ◌<◌, ◌≤◌, ℤ, unsigned_abs};
 ghost use Rattle.refusal.specs.Refusal.{none};
 ghost use Rattle.floats.specs.Count.{at, count_of};

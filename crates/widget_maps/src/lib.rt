@@ -1,4 +1,6 @@
 // What the registry of crates `widget_rows`, `widget_table`, `widget_queries` and `widget_rects` means: the maps and lists of egui's WidgetRects. There is nothing to run.
+#![tactic(auto)]
+
 ghost use Rattle.std.specs.Prelude.{◌≡◌, Bool, ℕ, ◌<◌};
 ghost use Rattle.refusal.specs.Limits.{widgets};
 ghost use Rattle.layers.specs.declared.LayerId.{LayerId};

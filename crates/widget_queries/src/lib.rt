@@ -1,4 +1,6 @@
 // The queries over lent tables: of an id, with the refusal of id 0, and the focusable widgets of a layer.
+#![tactic(auto)]
+
 ghost use Rattle.std.specs.Prelude.{◌≡◌, [], cond, ◌+◌, ◌<◌, length, set};
 ghost use Rattle.tables.specs.Tables.{written_on};
 ghost use Rattle.widget_rect.specs.WidgetRect.{is_focusable};
@@ -11,21 +13,21 @@ use widget_rect::WidgetRect;
 use widget_rows::{Entry, Listed};
 
 // In which layer, and at which place of its list.
-#[derive(Drop)]
+#[derive(Clone, Copy)]
 pub enum OrderAnswer {
     Nothing,
     Is(LayerId, u64),
     Refused(u64),
 }
 
-#[derive(Drop)]
+#[derive(Clone, Copy)]
 pub enum WidgetAnswer {
     Nothing,
     Is(WidgetRect),
     Refused(u64),
 }
 
-#[derive(Drop)]
+#[derive(Clone, Copy)]
 pub enum ContainsAnswer {
     Is(bool),
     Refused(u64),

@@ -1,4 +1,6 @@
 // WidgetRect of widget_rect.rs: what the registry keeps of a widget.
+#![tactic(auto)]
+
 ghost use Rattle.std.specs.Prelude.{◌≡◌};
 ghost use Rattle.widget_rect.specs.WidgetRect.{is_focusable, joined_of, ids_refusal, rects_refusal, other_layer_refusal, widget_refusal, insert_refusal};
 
@@ -6,8 +8,8 @@ use emath::Rect;
 use layers::LayerId;
 use refusal::{LAST_SENSE, NONE, OTHER_LAYER};
 
+#[derive(Clone, Copy)]
 #[repr(C)]
-#[derive(Drop)]
 pub struct WidgetRect {
     pub id: u64,
     pub parent_id: u64,

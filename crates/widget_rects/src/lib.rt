@@ -1,4 +1,6 @@
 // WidgetRects of widget_rect.rs as a record by value, over the tables in place of crates `widget_rows` and `widget_table` and the queries of crate `widget_queries`.
+#![tactic(auto)]
+
 ghost use Rattle.std.specs.Prelude.{◌≡◌};
 ghost use Rattle.widget_rows.specs.Rows.{list_of};
 ghost use Rattle.widget_queries.specs.Queries.{order_answer, widget_answer, contains_answer};
@@ -11,7 +13,7 @@ use widget_queries::{ContainsAnswer, OrderAnswer, WidgetAnswer};
 use widget_rect::WidgetRect;
 use widget_rows::Listed;
 
-#[derive(Drop)]
+#[derive(Clone, Copy)]
 pub struct WidgetRects {
     pub count: usize,
     pub cells: [u64; 2 * WIDGETS],
@@ -20,21 +22,21 @@ pub struct WidgetRects {
     pub rects: [f32; 16 * WIDGETS],
 }
 
-#[derive(Drop)]
+#[derive(Clone, Copy)]
 pub struct Inserted {
     pub refusal: u64,
     pub widgets: WidgetRects,
 }
 
 // The widgets of a list, in its order, and how many they are; the places after them are blank. None where the call is refused.
-#[derive(Drop)]
+#[derive(Clone, Copy)]
 pub struct Listing {
     pub refusal: u64,
     pub count: usize,
     pub widgets: [WidgetRect; WIDGETS],
 }
 
-#[derive(Drop)]
+#[derive(Clone, Copy)]
 pub struct Ids {
     pub refusal: u64,
     pub count: usize,

@@ -5,6 +5,8 @@
 //     words: ten numbers: parent id, Order, layer's id, index, and twice sense, enabled, visible
 //     rects: sixteen numbers: twice rect, interact_rect
 // The record stands in a row twice, since egui holds it twice: half 0 is the one held by id, half 1 the one in the list of its layer.
+#![tactic(auto)]
+
 ghost use Rattle.std.specs.Prelude.{◌≡◌, ◌+◌, ◌-◌, ◌*◌, ◌/◌, min, ◌≤◌, ◌<◌, length, take};
 ghost use Rattle.tables.specs.Tables.{closed};
 ghost use Rattle.widget_rows.specs.Rows.{rows_in, table_in, home_of, place_of, room_of, held_in, rect_at, layer_at, is_in, index_at, record_at, record_or, one_more, one_less, next_index, lowered_at, renumbered, entry_of, listed_in};
@@ -15,14 +17,14 @@ use tables::Found;
 use widget_rect::WidgetRect;
 
 // What by_id holds of an id: its index in the list of its layer, and its record.
-#[derive(Drop)]
+#[derive(Clone, Copy)]
 pub enum Entry {
     Vacant,
     Occupied(u64, WidgetRect),
 }
 
 // The next widget of a layer's list, and the row after it.
-#[derive(Drop)]
+#[derive(Clone, Copy)]
 pub enum Listed {
     End,
     Widget(usize, WidgetRect),

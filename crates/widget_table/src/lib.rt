@@ -1,5 +1,7 @@
 // WidgetRects of widget_rect.rs, changed in place on lent tables of any length: `insert` and `clear`. Crate `widget_rows` says what stands in the tables, and
 // reads them. How many rows are held goes along by value.
+#![tactic(auto)]
+
 ghost use Rattle.std.specs.Prelude.{◌≡◌, ◌+◌, ◌-◌, ◌*◌, ◌≤◌, ◌<◌, length};
 ghost use Rattle.tables.specs.Tables.{put_at};
 ghost use Rattle.widget_rows.specs.Rows.{rows_in, table_in};
@@ -10,8 +12,8 @@ use refusal::{FULL, NONE};
 use tables::Found;
 use widget_rect::WidgetRect;
 
+#[derive(Clone, Copy)]
 #[repr(C)]
-#[derive(Drop)]
 pub struct Inserted {
     pub refusal: u64,
     pub count: usize,

@@ -1,0 +1,8 @@
+-- `emath::Rect::everything` meets its contract. Assumes nothing.
+use mathlib.Core.Path.{refl}
+use lib.Ieee.{of_bits, neg}
+use Rattle.emath.proofs.Rect.everything.Goals as goal
+
+pub returns : goal.returns
+unfolding of_bits neg
+returns c = refl
