@@ -1,8 +1,8 @@
 // The registry at its limit of 256 widgets, by value: what each insert answers, and how many a layer then lists.
 use emath::{Pos2, Rect};
 use layers::LayerId;
-use libc::STDOUT_FILENO;
 use refusal::WIDGETS;
+use std::io;
 use widget_rect::WidgetRect;
 use widget_rects::{Inserted, WidgetRects};
 
@@ -46,22 +46,19 @@ fn filled(empty: WidgetRects) -> Inserted {
 }
 
 // What an insert answers, and how many widgets the layer then lists.
-fn tell(text: &[u8], r: Inserted) {
-    io::write_all(STDOUT_FILENO, text);
+fn tell(rt: &impl Print, text: &str, r: Inserted) -> io::Result<()> {
+    print!(rt; "{text}: ")?;
     if r.refusal == 0 {
-        io::write_all(STDOUT_FILENO, b": taken, ");
+        print!(rt; "taken")?;
     } else {
-        io::write_all(STDOUT_FILENO, b": no ");
-        io::print_decimal(STDOUT_FILENO, r.refusal);
-        io::write_all(STDOUT_FILENO, b", ");
+        let refusal = r.refusal;
+        print!(rt; "no {refusal}")?;
     }
     let widgets = r.widgets;
     let list = widgets.focusable_widgets_in_layer(layer());
-    io::print_decimal(STDOUT_FILENO, list.count as u64);
-    io::write_all(STDOUT_FILENO, b" listed, the last is ");
-    let ids = list.ids;
-    io::print_decimal(STDOUT_FILENO, last(ids, list.count));
-    io::write_all(STDOUT_FILENO, b"\n");
+    let count = list.count;
+    let last = last(list.ids, count);
+    println!(rt; ", {count} listed, the last is {last}")
 }
 
 // The last of the first n.
@@ -74,14 +71,15 @@ fn last(ids: [u64; WIDGETS], n: usize) -> u64 {
     0
 }
 
-pub fn registry() {
+pub fn registry(rt: &impl Print) -> io::Result<()> {
     let full = filled(WidgetRects::new());
-    tell(b"the 256th widget", full);
+    tell(rt, "the 256th widget", full)?;
     let widgets = full.widgets;
-    tell(b"a 257th", insert(widgets, 257, false));
-    tell(b"the first once more", insert(widgets, 1, false));
-    tell(b"the first to the top", insert(widgets, 1, true));
+    tell(rt, "a 257th", insert(widgets, 257, false))?;
+    tell(rt, "the first once more", insert(widgets, 1, false))?;
+    tell(rt, "the first to the top", insert(widgets, 1, true))?;
     let empty = widgets.clear();
-    tell(b"after clear, a new one", insert(empty, 257, false));
-    tell(b"and 256 of them", filled(empty));
+    tell(rt, "after clear, a new one", insert(empty, 257, false))?;
+    tell(rt, "and 256 of them", filled(empty))?;
+    Ok(())
 }

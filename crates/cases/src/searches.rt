@@ -1,17 +1,13 @@
 // The directional search at its limits: points, seen from a point, and what is found.
 use emath::{Pos2, Rect};
 use input::{DOWN, LEFT, NEXT, RIGHT, UP};
-use libc::STDOUT_FILENO;
+use std::io;
 
-fn tell(text: &[u8], id: u64) {
-    io::write_all(STDOUT_FILENO, text);
+fn tell(rt: &impl Print, text: &str, id: u64) -> io::Result<()> {
     if id == 0 {
-        io::write_all(STDOUT_FILENO, b": nothing\n");
-        return;
+        return println!(rt; "{text}: nothing");
     }
-    io::write_all(STDOUT_FILENO, b": ");
-    io::print_decimal(STDOUT_FILENO, id);
-    io::write_all(STDOUT_FILENO, b"\n");
+    println!(rt; "{text}: {id}")
 }
 
 // From the point (at, at), one field with its low corner at (x, y), so wide and so high.
@@ -41,64 +37,78 @@ fn short() -> u64 {
     search::find(&ids, &rects, 9, from(0.0), RIGHT)
 }
 
-fn of_two() {
+fn of_two(rt: &impl Print) -> io::Result<()> {
     tell(
-        b"right, 1 at (5, 0), 2 at (4, 1)",
+        rt,
+        "right, 1 at (5, 0), 2 at (4, 1)",
         two(1, 5.0, 0.0, 2, 4.0, 1.0),
-    );
+    )?;
     tell(
-        b"right, 1 at (1, 1), 2 at (1, -1)",
+        rt,
+        "right, 1 at (1, 1), 2 at (1, -1)",
         two(1, 1.0, 1.0, 2, 1.0, -1.0),
-    );
+    )?;
     tell(
-        b"right, 2 at (1, 1), 1 at (1, -1)",
+        rt,
+        "right, 2 at (1, 1), 1 at (1, -1)",
         two(2, 1.0, 1.0, 1, 1.0, -1.0),
-    );
+    )?;
     tell(
-        b"right, the focused 9 at (1, 0), 1 at (2, 0)",
+        rt,
+        "right, the focused 9 at (1, 0), 1 at (2, 0)",
         two(9, 1.0, 0.0, 1, 2.0, 0.0),
-    );
+    )?;
     tell(
-        b"right, a free place at (1, 0), 1 at (2, 0)",
+        rt,
+        "right, a free place at (1, 0), 1 at (2, 0)",
         two(0, 1.0, 0.0, 1, 2.0, 0.0),
-    );
+    )?;
     tell(
-        b"right, a free place, and one without its bottom edge",
+        rt,
+        "right, a free place, and one without its bottom edge",
         short(),
-    );
+    )?;
+    Ok(())
 }
 
-fn of_one() {
-    tell(b"down, 7 at (1, 1)", one(0.0, 1.0, 1.0, 0.0, DOWN));
-    tell(b"up, 7 at (1, 1)", one(0.0, 1.0, 1.0, 0.0, UP));
-    tell(b"left, 7 at (-1, 1)", one(0.0, -1.0, 1.0, 0.0, LEFT));
-    tell(b"right, 7 at (0, 0)", one(0.0, 0.0, 0.0, 0.0, RIGHT));
-    tell(b"next, 7 at (1, 0)", one(0.0, 1.0, 0.0, 0.0, NEXT));
+fn of_one(rt: &impl Print) -> io::Result<()> {
+    tell(rt, "down, 7 at (1, 1)", one(0.0, 1.0, 1.0, 0.0, DOWN))?;
+    tell(rt, "up, 7 at (1, 1)", one(0.0, 1.0, 1.0, 0.0, UP))?;
+    tell(rt, "left, 7 at (-1, 1)", one(0.0, -1.0, 1.0, 0.0, LEFT))?;
+    tell(rt, "right, 7 at (0, 0)", one(0.0, 0.0, 0.0, 0.0, RIGHT))?;
+    tell(rt, "next, 7 at (1, 0)", one(0.0, 1.0, 0.0, 0.0, NEXT))?;
+    Ok(())
 }
 
-fn at_the_limits() {
+fn at_the_limits(rt: &impl Print) -> io::Result<()> {
     tell(
-        b"right, from one corner of the grid 7 at the other",
+        rt,
+        "right, from one corner of the grid 7 at the other",
         one(-16384.0, 16384.0, 16384.0, 0.0, RIGHT),
-    );
+    )?;
     tell(
-        b"right, 7 at 185,923 64ths on both axes",
+        rt,
+        "right, 7 at 185,923 64ths on both axes",
         one(0.0, 2905.03125, 2905.03125, 0.03125, RIGHT),
-    );
+    )?;
     tell(
-        b"right, 7 at 185,925 64ths on both axes",
+        rt,
+        "right, 7 at 185,925 64ths on both axes",
         one(0.0, 2905.0625, 2905.0625, 0.03125, RIGHT),
-    );
-    tell(b"right, 7 off the grid", one(0.0, 0.01, 0.0, 0.0, RIGHT));
-    tell(b"right, 7 at NaN", one(0.0, 0.0 / 0.0, 0.0, 0.0, RIGHT));
+    )?;
+    tell(rt, "right, 7 off the grid", one(0.0, 0.01, 0.0, 0.0, RIGHT))?;
+    tell(rt, "right, 7 at NaN", one(0.0, 0.0 / 0.0, 0.0, 0.0, RIGHT))?;
     tell(
-        b"right, from NaN 7 at (1, 0)",
+        rt,
+        "right, from NaN 7 at (1, 0)",
         one(0.0 / 0.0, 1.0, 0.0, 0.0, RIGHT),
-    );
+    )?;
+    Ok(())
 }
 
-pub fn searches() {
-    of_two();
-    of_one();
-    at_the_limits();
+pub fn searches(rt: &impl Print) -> io::Result<()> {
+    of_two(rt)?;
+    of_one(rt)?;
+    at_the_limits(rt)?;
+    Ok(())
 }

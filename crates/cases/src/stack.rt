@@ -2,8 +2,8 @@
 use area::AreaState;
 use areas::{Areas, Changed, Layers};
 use layers::LayerId;
-use libc::STDOUT_FILENO;
 use refusal::LAYERS;
+use std::io;
 
 fn layer(id: u64) -> LayerId {
     LayerId { order: 1, id: id }
@@ -38,60 +38,64 @@ fn last(list: Layers) -> u64 {
 }
 
 // What a call answers, and how many layers the stack then has.
-fn tell(text: &[u8], c: Changed) {
-    io::write_all(STDOUT_FILENO, text);
+fn tell(rt: &impl Print, text: &str, c: Changed) -> io::Result<()> {
+    print!(rt; "{text}: ")?;
     if c.refusal == 0 {
-        io::write_all(STDOUT_FILENO, b": taken, ");
+        print!(rt; "taken")?;
     } else {
-        io::write_all(STDOUT_FILENO, b": no ");
-        io::print_decimal(STDOUT_FILENO, c.refusal);
-        io::write_all(STDOUT_FILENO, b", ");
+        let refusal = c.refusal;
+        print!(rt; "no {refusal}")?;
     }
     let areas = c.areas;
     let list = areas.order();
-    io::print_decimal(STDOUT_FILENO, list.count as u64);
-    io::write_all(STDOUT_FILENO, b" layers, the last is ");
-    io::print_decimal(STDOUT_FILENO, last(list));
-    io::write_all(STDOUT_FILENO, b"\n");
+    let count = list.count;
+    let last = last(list);
+    println!(rt; ", {count} layers, the last is {last}")
 }
 
 // The same after the end of the pass.
-fn tell_ended(text: &[u8], c: Changed) {
+fn tell_ended(rt: &impl Print, text: &str, c: Changed) -> io::Result<()> {
     let areas = c.areas;
     tell(
+        rt,
         text,
         Changed {
             refusal: c.refusal,
             areas: areas.end_pass(),
         },
-    );
+    )
 }
 
-pub fn stack() {
+pub fn stack(rt: &impl Print) -> io::Result<()> {
     let full = filled(64);
-    tell(b"the 64th layer", full);
+    tell(rt, "the 64th layer", full)?;
     let areas = full.areas;
-    tell(b"a 65th", show(areas, 65));
-    tell(b"the first once more", show(areas, 1));
-    tell(b"a 65th raised", areas.move_to_top(layer(65)));
-    tell_ended(b"the first raised, end", areas.move_to_top(layer(1)));
-    tell(b"a new child", areas.set_sublayer(layer(1), layer(65)));
+    tell(rt, "a 65th", show(areas, 65))?;
+    tell(rt, "the first once more", show(areas, 1))?;
+    tell(rt, "a 65th raised", areas.move_to_top(layer(65)))?;
+    tell_ended(rt, "the first raised, end", areas.move_to_top(layer(1)))?;
+    tell(rt, "a new child", areas.set_sublayer(layer(1), layer(65)))?;
     tell(
-        b"a new child of itself",
+        rt,
+        "a new child of itself",
         areas.set_sublayer(layer(65), layer(65)),
-    );
+    )?;
     tell_ended(
-        b"the first a child of the second, end",
+        rt,
+        "the first a child of the second, end",
         areas.set_sublayer(layer(2), layer(1)),
-    );
+    )?;
     let fewer = filled(63).areas;
     tell(
-        b"with 63, a pair of two new",
+        rt,
+        "with 63, a pair of two new",
         fewer.set_sublayer(layer(64), layer(65)),
-    );
+    )?;
     tell(
-        b"with 63, a new child of itself",
+        rt,
+        "with 63, a new child of itself",
         fewer.set_sublayer(layer(64), layer(64)),
-    );
-    tell(b"after reset, a new one", show(areas.reset(), 65));
+    )?;
+    tell(rt, "after reset, a new one", show(areas.reset(), 65))?;
+    Ok(())
 }

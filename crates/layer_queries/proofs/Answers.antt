@@ -1,5 +1,5 @@
 -- Laws of an answer about a layer's row, and of one about two layers, from what the calls gave. Assumes nothing.
-use Rattle.core.specs.Prelude.{◌≡◌, ℕ}
+use Rattle.std.specs.Prelude.{◌≡◌, ℕ}
 use mathlib.Core.Path.{ap, ◌∙◌}
 use Rattle.refusal.specs.Refusal.{answered, lowest}
 use Rattle.refusal.proofs.Laws.{taken, turned_away_lem}

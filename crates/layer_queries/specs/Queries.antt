@@ -1,6 +1,6 @@
 -- What Areas (memory/mod.rs, lines 1246 to 1261, 1309 to 1333 and 1371 to 1396) asks of its layers, on the rows of the stack. What it means in egui's terms is crate `area_maps`; a reader
 -- needs only that. Definitions only.
-use Rattle.core.specs.Prelude.{ℕ, suc, Bool, true, cond, not, ◌&&◌, ◌||◌, List, [], ◌∷◌, length, ◌==◌, nat_lt}
+use Rattle.std.specs.Prelude.{ℕ, suc, Bool, true, cond, not, ◌&&◌, ◌||◌, List, [], ◌∷◌, length, ◌==◌, nat_lt}
 use Rattle.refusal.specs.Refusal.{answered}
 use Rattle.layers.specs.declared.LayerId.{LayerId}
 use Rattle.layer_rows.specs.declared.Row.{Row}

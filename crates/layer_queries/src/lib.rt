@@ -1,7 +1,7 @@
 // The queries of `Areas` (memory/mod.rs) that ask only the layers, on the rows of crate `layer_rows`.
 #![tactic(auto)]
 
-ghost use Rattle.core.specs.Prelude.{◌≡◌, ◌+◌};
+ghost use Rattle.std.specs.Prelude.{◌≡◌, ◌+◌};
 ghost use Rattle.refusal.specs.Refusal.{lowest, code_refusal};
 ghost use Rattle.refusal.specs.Limits.{last_order};
 ghost use Rattle.layers.specs.Layers.{layer_refusal};

@@ -1,12 +1,11 @@
 -- Laws of a layer's row that a call changes in the table: how many rows there are then, and what the table is; and of what is refused. Assumes nothing.
 use mathlib.Core.Path.{◌≡◌, refl, sym, ap, ◌∙◌}
 use mathlib.Core.Bool.{Bool, true, false, cond}
-use mathlib.Core.List.{List, ◌++◌}
-use Prim.Native.Nat.{ℕ, zero, suc, ◌+◌, ◌*◌, ◌-◌, ◌/◌, min, max, ◌≤◌}
+use mathlib.Core.List.{List}
+use Prim.Native.Nat.{ℕ, zero, suc, ◌+◌, ◌*◌, ◌/◌, min, max, ◌≤◌}
 use native.Mathlib.Omega.{arith}
 use lib.Dec.{ltb}
-use lib.ListN.{length, get_or, drop, replicate, length-append, length-drop, length-replicate}
-use lib.Seq.{drop-drop, drop-append-add}
+use lib.ListN.{length, get_or}
 use borrow.Author.Tests.{ltb-false}
 use Rattle.refusal.specs.Refusal.{full, none, lowest, kept}
 use Rattle.refusal.proofs.Laws.{both_none}
@@ -14,7 +13,7 @@ use Rattle.tables.specs.Tables.{put_at}
 use Rattle.layers.specs.declared.LayerId.{LayerId}
 use Rattle.layers.specs.Layers.{layer_refusal}
 use Rattle.layer_rows.specs.declared.Row.{Row}
-use Rattle.layer_rows.specs.Rows.{held_rows, words_of, flat, rows_on, new_row, spot_in, marked}
+use Rattle.layer_rows.specs.Rows.{held_rows, words_of, rows_on, new_row, spot_in, marked}
 use Rattle.layer_rows.proofs.Rows.{of_spot}
 use Rattle.layer_rows.proofs.Table.{on_more, on_length, held_on}
 use Rattle.layer_rows.proofs.Marks.{mark_length, mark_put}

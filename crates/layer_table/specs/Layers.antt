@@ -1,6 +1,6 @@
 -- The calls of Areas (memory/mod.rs, lines 1335 to 1369) that change only its layers, on the rows of the stack: the exact value of each row. What it means in egui's terms
 -- is crate `area_maps`; a reader needs only that. Definitions only.
-use Rattle.std.specs.Prelude.{ℕ, zero, suc, ◌/◌, Bool, cond, not, ◌&&◌, ◌||◌, List, eqb, ltb, length}
+use Rattle.std.specs.Prelude.{ℕ, ◌/◌, Bool, cond, not, ◌&&◌, ◌||◌, List, eqb, ltb, length}
 use Rattle.refusal.specs.Refusal.{none, full, bad_pair, bad_family, lowest}
 use Rattle.layers.specs.declared.LayerId.{LayerId}
 use Rattle.layers.specs.Layers.{layer_refusal}

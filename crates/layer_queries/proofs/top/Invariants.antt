@@ -1,0 +1,11 @@
+-- `layer_queries::top` meets its contract. The invariant: above the rows that are left there is none. Assumes nothing.
+use Rattle.layer_rows.specs.Rows.{held_rows}
+use Rattle.layer_queries.specs.Queries.{is_top_row}
+use Rattle.layer_queries.proofs.Tops.{Left}
+use Rattle.layer_queries.proofs.top.Given as goal
+
+abbrev pub invariant-loop-k : goal.invariant-loop-k
+invariant-loop-k l = Left (is_top_row l.order) (held_rows l.count l.rows) l.k
+
+abbrev pub decreases-loop-k : goal.decreases-loop-k
+decreases-loop-k l = l.k

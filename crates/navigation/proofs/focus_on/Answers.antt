@@ -1,0 +1,5 @@
+-- `navigation::focus_on` meets its contract. Assumes nothing.
+use Rattle.navigation.proofs.focus_on.Goals as goal
+
+pub returns : goal.returns
+returns c = rw c.new-filter.ensures
