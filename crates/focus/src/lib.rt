@@ -149,8 +149,7 @@ pub fn ended(f: Focus, u: Used) -> Done
 
 // ---- their thin forms
 
-#[unsafe(no_mangle)]
-pub extern "C" fn focus_begin_pass(f: &mut Focus, e: Events) -> u64
+pub fn focus_begin_pass(f: &mut Focus, e: Events) -> u64
     ensures { (f.new ≡ (begun_of f.old e).focus) × (result ≡ (begun_of f.old e).refusal) }
 {
     let r = begun(*f, e);
@@ -158,8 +157,7 @@ pub extern "C" fn focus_begin_pass(f: &mut Focus, e: Events) -> u64
     r.refusal
 }
 
-#[unsafe(no_mangle)]
-pub extern "C" fn focus_interested_in_focus(f: &mut Focus, id: u64) -> u64
+pub fn focus_interested_in_focus(f: &mut Focus, id: u64) -> u64
     ensures { (f.new ≡ (interested_of f.old id).focus) × (result ≡ (interested_of f.old id).refusal) }
 {
     let r = interested(*f, id);
@@ -167,8 +165,7 @@ pub extern "C" fn focus_interested_in_focus(f: &mut Focus, id: u64) -> u64
     r.refusal
 }
 
-#[unsafe(no_mangle)]
-pub extern "C" fn focus_end_pass(f: &mut Focus, u: Used) -> u64
+pub fn focus_end_pass(f: &mut Focus, u: Used) -> u64
     ensures { (f.new ≡ (ended_of f.old u).focus) × (result ≡ (ended_of f.old u).refusal) }
 {
     let r = ended(*f, u);

@@ -1,7 +1,7 @@
 // Answers the lines of ../shared/REPLAY.md from standard input, one line each, from the proved libraries. The state is in tables that are lent down to the calls; how many widgets are held goes along by value.
 #![tactic(auto)]
 
-ghost use Rattle.std.specs.Prelude.{◌≡◌, length};
+ghost use Rattle.std.specs.Prelude.{◌≡◌, ◌≤◌, IfOk, length};
 
 mod calls;
 mod lists;
@@ -14,9 +14,11 @@ mod widgets;
 mod words;
 
 use crate::calls::State;
-use libc::{STDIN_FILENO, STDOUT_FILENO};
 use memory_rules::Memory;
 use refusal::WIDGETS;
+use std::io;
+use std::io::{Read, Write};
+use std::rt::{Stdin, Stdout};
 
 // So that the reading ends: rounds of 65,536 bytes, 2^32 bytes in all.
 const ROUNDS: usize = 65536;
@@ -38,10 +40,11 @@ struct Progress {
     memory: Memory,
 }
 
-fn write(out: &[u8], used: usize) {
+fn write(screen: &mut Stdout, out: &[u8], used: usize) -> io::Result<()> {
     if used <= out.len() {
-        io::write_all(STDOUT_FILENO, &out[..used]);
+        return screen.write_all(&out[..used]);
     }
+    Ok(())
 }
 
 // The first bytes of the line's buffer; none where the line does not fit, which is answered `bad`.
@@ -54,6 +57,7 @@ fn first(line: &[u8], held: usize) -> &[u8] {
 
 // The answer to the line, `bad` where the line or its answer does not fit.
 fn put_answer(
+    screen: &mut Stdout,
     line: &[u8],
     out: &mut [u8],
     cells: &mut [u64],
@@ -61,7 +65,7 @@ fn put_answer(
     words: &mut [u64],
     rects: &mut [f32],
     before: Progress,
-) -> Progress {
+) -> io::Result<Progress> {
     let m = before.memory;
     let state = State {
         count: before.count,
@@ -81,34 +85,36 @@ fn put_answer(
         a.count,
         after,
     );
-    Progress {
+    let used = unless_full(screen, out, before.used, end)?;
+    Ok(Progress {
         held: 0,
-        used: unless_full(out, before.used, end),
+        used: used,
         count: a.count,
         memory: after,
-    }
+    })
 }
 
 // How much of the output is taken after an answer, or after `bad` in its place where it does not fit.
-fn unless_full(out: &mut [u8], used: usize, end: usize) -> usize {
+fn unless_full(screen: &mut Stdout, out: &mut [u8], used: usize, end: usize) -> io::Result<usize> {
     if out.len() < end {
         let i = print::bad(out, used);
-        return unless_half(out, i);
+        return unless_half(screen, out, i);
     }
-    unless_half(out, end)
+    unless_half(screen, out, end)
 }
 
 // What is gathered goes out where it takes more than half of the room.
-fn unless_half(out: &[u8], used: usize) -> usize {
+fn unless_half(screen: &mut Stdout, out: &[u8], used: usize) -> io::Result<usize> {
     if out.len() / 2 < used {
-        write(out, used);
-        return 0;
+        write(screen, out, used)?;
+        return Ok(0);
     }
-    used
+    Ok(used)
 }
 
 // Takes in a part of a chunk, which ends a line where it ends before the chunk does.
 fn take_part(
+    screen: &mut Stdout,
     chunk: &[u8],
     from: usize,
     to: usize,
@@ -119,13 +125,13 @@ fn take_part(
     words: &mut [u64],
     rects: &mut [f32],
     before: Progress,
-) -> Progress {
+) -> io::Result<Progress> {
     let mut now = before;
     now.held = hold(line, before.held, chunk, from, to);
     if to < chunk.len() {
-        return put_answer(line, out, cells, ids, words, rects, now);
+        return put_answer(screen, line, out, cells, ids, words, rects, now);
     }
-    now
+    Ok(now)
 }
 
 fn hold(line: &mut [u8], held: usize, chunk: &[u8], from: usize, to: usize) -> usize {
@@ -140,6 +146,7 @@ fn hold(line: &mut [u8], held: usize, chunk: &[u8], from: usize, to: usize) -> u
 
 // Takes in a chunk of the input: byte 10 ends a line.
 fn take_chunk(
+    screen: &mut Stdout,
     chunk: &[u8],
     line: &mut [u8],
     out: &mut [u8],
@@ -148,16 +155,33 @@ fn take_chunk(
     words: &mut [u64],
     rects: &mut [f32],
     before: Progress,
-) -> Progress {
+) -> io::Result<Progress> {
     let mut now = before;
     let mut i: usize = 0;
     while i < chunk.len() {
         let e = text::find(chunk, i, b'\n');
         let from = i;
         i = e + 1;
-        now = take_part(chunk, from, e, line, out, cells, ids, words, rects, now);
+        now = take_part(
+            screen, chunk, from, e, line, out, cells, ids, words, rects, now,
+        )?;
     }
-    now
+    Ok(now)
+}
+
+// Reads until the chunk is full or the input ends; how many bytes there are.
+fn fill(input: &mut Stdin, chunk: &mut [u8]) -> io::Result<usize>
+    ensures { IfOk result (λ n. n ≤ length chunk.new) }
+{
+    let mut used: usize = 0;
+    for _ in 0..u64::MAX {
+        let n = input.read(&mut chunk[used..])?;
+        if n == 0 {
+            return Ok(used);
+        }
+        used += n;
+    }
+    Ok(used)
 }
 
 // A round: what is read, and whether the input has ended.
@@ -168,6 +192,8 @@ struct Round {
 }
 
 fn take_round(
+    input: &mut Stdin,
+    screen: &mut Stdout,
     chunk: &mut [u8],
     line: &mut [u8],
     out: &mut [u8],
@@ -176,18 +202,29 @@ fn take_round(
     words: &mut [u64],
     rects: &mut [f32],
     before: Progress,
-) -> Round {
-    let n = io::read_full(STDIN_FILENO, chunk);
+) -> io::Result<Round> {
+    let n = fill(input, chunk)?;
     if n == 0 {
-        return Round {
+        return Ok(Round {
             now: before,
             ended: true,
-        };
+        });
     }
-    Round {
-        now: take_chunk(&chunk[..n], line, out, cells, ids, words, rects, before),
+    let now = take_chunk(
+        screen,
+        &chunk[..n],
+        line,
+        out,
+        cells,
+        ids,
+        words,
+        rects,
+        before,
+    )?;
+    Ok(Round {
+        now: now,
         ended: false,
-    }
+    })
 }
 
 fn start() -> Progress {
@@ -201,6 +238,8 @@ fn start() -> Progress {
 
 // Takes in the whole input, a chunk a round.
 fn take_all(
+    input: &mut Stdin,
+    screen: &mut Stdout,
     chunk: &mut [u8],
     line: &mut [u8],
     out: &mut [u8],
@@ -208,20 +247,23 @@ fn take_all(
     ids: &mut [u64],
     words: &mut [u64],
     rects: &mut [f32],
-) -> Progress {
+) -> io::Result<Progress> {
     let mut now = start();
     for _ in 0..ROUNDS {
-        let r = take_round(chunk, line, out, cells, ids, words, rects, now);
+        let r = take_round(
+            input, screen, chunk, line, out, cells, ids, words, rects, now,
+        )?;
         now = r.now;
         if r.ended {
-            return now;
+            return Ok(now);
         }
     }
-    now
+    Ok(now)
 }
 
 // Writes what is gathered, after the answer to a last line that no byte 10 ends.
 fn finish(
+    screen: &mut Stdout,
     line: &[u8],
     out: &mut [u8],
     cells: &mut [u64],
@@ -229,17 +271,18 @@ fn finish(
     words: &mut [u64],
     rects: &mut [f32],
     last: Progress,
-) {
+) -> io::Result<()> {
     if last.held == 0 {
-        write(out, last.used);
-        return;
+        return write(screen, out, last.used);
     }
-    let end = put_answer(line, out, cells, ids, words, rects, last);
-    write(out, end.used);
+    let end = put_answer(screen, line, out, cells, ids, words, rects, last)?;
+    write(screen, out, end.used)
 }
 
 // The whole input, on tables.
 fn run(
+    input: &mut Stdin,
+    screen: &mut Stdout,
     chunk: &mut [u8],
     line: &mut [u8],
     out: &mut [u8],
@@ -247,25 +290,33 @@ fn run(
     ids: &mut [u64],
     words: &mut [u64],
     rects: &mut [f32],
-) {
-    let last = take_all(chunk, line, out, cells, ids, words, rects);
-    finish(line, out, cells, ids, words, rects, last);
+) -> io::Result<()> {
+    let last = take_all(input, screen, chunk, line, out, cells, ids, words, rects)?;
+    finish(screen, line, out, cells, ids, words, rects, last)
 }
 
 // The registry's tables, which are empty at first.
-fn session(chunk: &mut [u8], line: &mut [u8], out: &mut [u8]) {
+fn session(
+    input: &mut Stdin,
+    screen: &mut Stdout,
+    chunk: &mut [u8],
+    line: &mut [u8],
+    out: &mut [u8],
+) -> io::Result<()> {
     let mut cells = [0u64; 2 * WIDGETS];
     let mut ids = [0u64; WIDGETS];
     let mut words = [0u64; 10 * WIDGETS];
     let mut rects = [0.0f32; 16 * WIDGETS];
     run(
-        chunk, line, out, &mut cells, &mut ids, &mut words, &mut rects,
-    );
+        input, screen, chunk, line, out, &mut cells, &mut ids, &mut words, &mut rects,
+    )
 }
 
-fn main() {
-    let mut chunk = io::large_buffer();
-    let mut line = io::large_buffer();
+fn main(rt: HostRuntime) -> io::Result<()> {
+    let mut chunk = [0u8; 65536];
+    let mut line = [0u8; 65536];
     let mut out = output();
-    session(&mut chunk, &mut line, &mut out);
+    let mut input = rt.stdin();
+    let mut screen = rt.stdout();
+    session(&mut input, &mut screen, &mut chunk, &mut line, &mut out)
 }

@@ -1,5 +1,4 @@
 use mathlib.Core.Path.{sym, refl, ◌∙◌}
-use Prim.Native.Nat.{◌-◌}
 use Rattle.tables.proofs.Finding.{find_past, find_here, find_more}
 use Rattle.tables.proofs.find_from.Goals as goal
 
