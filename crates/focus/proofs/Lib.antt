@@ -1,4 +1,3 @@
 -- Laws that the proofs of the record share.
-pub mod Borrowed
 pub mod Counted
 pub mod Packed

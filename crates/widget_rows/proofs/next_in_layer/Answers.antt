@@ -1,6 +1,5 @@
 use Rattle.widget_rows.proofs.Places.{held_is}
 use mathlib.Core.Path.{refl, sym, ◌∙◌}
-use Prim.Native.Nat.{◌-◌}
 use native.Mathlib.Omega.{arith}
 use Rattle.widget_rows.proofs.Lists.{listed_hit, listed_miss, listed_end}
 use Rattle.widget_rows.proofs.Places.{held_fits}

@@ -7,7 +7,7 @@ pub loop-k-init : goal.loop-k-init
 loop-k-init c = (omega arith, rw c.fewer-k.ensures)
 
 pub returns-then-is_in : goal.returns-then-is_in
-returns-then-is_in c = sym (c.loop-k.invariant.1 ∙ next_hit _ _ _ _ _ _ (omega arith) c.is_in.ensures c.if-is_in.true c.index.ensures c.one_more_lem.ensures)
+returns-then-is_in c = sym (c.loop-k.invariant.1 ∙ next_hit _ _ _ _ _ _ (omega arith) c.is_in.ensures c.if-is_in.true c.index.ensures c.one_more.ensures)
 
 pub loop-k-preserved : goal.loop-k-preserved
 loop-k-preserved c = (omega arith, c.loop-k.invariant.1 ∙ next_miss _ _ _ _ (omega arith) c.is_in.ensures c.if-is_in.false)

@@ -1,5 +1,4 @@
 use mathlib.Core.Path.{refl, sym, ◌∙◌}
-use Prim.Native.Nat.{◌-◌}
 use native.Mathlib.Omega.{arith}
 use Rattle.widget_rows.proofs.Lists.{lowered_length, renumber_none, renumber_more, renumber_end}
 use Rattle.widget_rows.proofs.renumber.Goals as goal
