@@ -1,0 +1,26 @@
+-- `focus_cache::enlist` meets its contract. Assumes nothing.
+use mathlib.Core.Path.{refl}
+use native.Mathlib.Omega.{arith}
+use Rattle.focus_cache.proofs.Calls.{held_fits, held_part, slot_fits, old_answer, old_cache, new_answer, new_cache, full_answer}
+use Rattle.focus_cache.proofs.enlist.Goals as goal
+
+pub slice_bounds-find_after-end : goal.slice_bounds-find_after-end
+slice_bounds-find_after-end c = search held_fits
+
+pub slice_bounds-find_after-end-2 : goal.slice_bounds-find_after-end-2
+slice_bounds-find_after-end-2 c = search held_part
+
+pub overflow_add-result : goal.overflow_add-result
+overflow_add-result c =
+    omega (arith, slot_fits _ _ _ _ _ _ c.held-n.ensures _ c.in-At.ensures _ refl)
+
+pub returns-then-n-room : goal.returns-then-n-room
+returns-then-n-room c =
+    (new_answer _ _ _ _ _ _ c.held-n.ensures _ c.in-Nothing.ensures refl _ c.room.ensures c.if-n-room.true, new_cache _ _ _ _ _ _ c.held-n.ensures _ c.in-Nothing.ensures refl _ c.room.ensures _ _ c.if-n-room.true c.everything.ensures c.put.ensures)
+
+pub returns-in-At : goal.returns-in-At
+returns-in-At c = (search old_answer, search old_cache)
+
+pub returns-else-n-room : goal.returns-else-n-room
+returns-else-n-room c =
+    (full_answer _ _ _ _ _ _ c.held-n.ensures _ c.in-Nothing.ensures refl _ c.room.ensures c.if-n-room.false, refl)
