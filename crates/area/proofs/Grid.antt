@@ -21,9 +21,7 @@ use Rattle.gui_rounding.specs.GuiRounding.{round_ui, half_away}
 use Rattle.gui_rounding.proofs.Grid.{round_ui_count}
 use Rattle.area.specs.declared.AreaState.{AreaState}
 use Rattle.area.specs.declared.PivotPos.{PivotPos}
-use Rattle.area.specs.declared.PivotPos.TheVariants as PivotPos
 use Rattle.area.specs.declared.Size.{Size}
-use Rattle.area.specs.declared.Size.TheVariants as Size
 use Rattle.area.specs.Area.{nil, position_of, extent_of, to_factor, left_top, rect_of, low_edge, high_edge, pivot_pos_at, size_at, state_refusal}
 
 -- factor times size: f * n steps of 1 / 64

@@ -13,16 +13,11 @@ use Rattle.emath.specs.Pos2.{round_pos}
 use Rattle.emath.specs.Rect.{from_min_size, round_rect}
 use Rattle.grid.specs.Grid.{pivot_pos_refusal, size_refusal}
 use Rattle.area.specs.declared.PivotPos.{PivotPos}
-use Rattle.area.specs.declared.PivotPos.TheVariants as PivotPos
 use Rattle.area.specs.declared.Size.{Size}
-use Rattle.area.specs.declared.Size.TheVariants as Size
 use Rattle.area.specs.declared.AreaState.{AreaState}
 use Rattle.area.specs.declared.PosAnswer.{PosAnswer}
-use Rattle.area.specs.declared.PosAnswer.TheVariants as PosAnswer
 use Rattle.area.specs.declared.RectAnswer.{RectAnswer}
-use Rattle.area.specs.declared.RectAnswer.TheVariants as RectAnswer
 use Rattle.area.specs.declared.StateAnswer.{StateAnswer}
-use Rattle.area.specs.declared.StateAnswer.TheVariants as StateAnswer
 
 abbrev pub nil : Float
 nil = of_bits binary32 0

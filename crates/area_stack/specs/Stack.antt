@@ -21,9 +21,7 @@ use Rattle.area_table.specs.Table.{Table, table_in, room_of, held_in, spot_of, h
 use Rattle.area_stack.specs.declared.StateAnswer.{StateAnswer}
 use Rattle.area_stack.specs.declared.StateAnswer.TheVariants as State
 use Rattle.area_stack.specs.declared.NextLayer.{NextLayer}
-use Rattle.area_stack.specs.declared.NextLayer.TheVariants as NextLayer
 use Rattle.area_stack.specs.declared.NextWindow.{NextWindow}
-use Rattle.area_stack.specs.declared.NextWindow.TheVariants as NextWindow
 
 -- ---- the tables: how many rows and states are held, the rows of the layers, and the map of the states
 pub record Tables : Type 0 where

@@ -14,9 +14,7 @@ use Rattle.tables.specs.Tables.{put_at, row_at}
 use Rattle.tables.proofs.Rows.{row_length, row_get, put_row_same, put_row_other}
 use Rattle.area.specs.declared.AreaState.{AreaState}
 use Rattle.area.specs.declared.PivotPos.{PivotPos}
-use Rattle.area.specs.declared.PivotPos.TheVariants as PivotPos
 use Rattle.area.specs.declared.Size.{Size}
-use Rattle.area.specs.declared.Size.TheVariants as Size
 use Rattle.area_table.specs.Table.{Table, table_in, Entry, word, pivot_pos_in, size_in, state_in, positioned, sized, codes_of, floats_of, room_of, put_in}
 use Rattle.area_table.proofs.Places.{row_fits}
 

@@ -7,9 +7,7 @@ use Rattle.tables.specs.declared.Found.{Found}
 use Rattle.tables.specs.declared.Found.TheVariants.{At, Nothing}
 use Rattle.tables.specs.Tables.{nearest, put_at}
 use Rattle.area.specs.declared.PivotPos.{PivotPos}
-use Rattle.area.specs.declared.PivotPos.TheVariants as PivotPos
 use Rattle.area.specs.declared.Size.{Size}
-use Rattle.area.specs.declared.Size.TheVariants as Size
 use Rattle.area.specs.declared.AreaState.{AreaState}
 use Rattle.area_table.specs.declared.Held.{Held}
 use Rattle.area_table.specs.declared.Held.TheVariants.{Vacant, Occupied}

@@ -1,7 +1,7 @@
 -- The four arrows as one: an axis and whether the arrow points to its low end. The product with an arrow's direction is the part along it. Assumes nothing.
 use mathlib.Core.Path.{◌≡◌, refl, ◌∙◌}
 use mathlib.Core.Logic.{◌⊎◌, inl, inr}
-use Prim.Native.Nat.{ℕ, zero}
+use Prim.Native.Nat.{ℕ}
 use mathlib.Core.Bool.{Bool, true, false, cond}
 use lib.IntN.{ℤ, pos}
 use lib.Dec.{T, eqb}
@@ -10,7 +10,6 @@ use Rattle.floats.proofs.Own.{times_unit, times_zero}
 use Rattle.emath.specs.declared.Vec2.{Vec2}
 use Rattle.input.specs.FocusDirection.{up, right, down, left}
 use Rattle.vec2.specs.Vec2.{dot_of}
-use Rattle.candidate.specs.Candidate as spec
 use Rattle.candidate.specs.Candidate.{search_direction, along_of}
 
 abbrev pub nil : Float

@@ -9,7 +9,6 @@ use lib.Pow.{pow_pos}
 use lib.Ieee.{Float, binary32, round, div, unlike}
 use lib.Ieee.Exact.{HasValue}
 use lib.Ieee.Scale.{round_same}
-use Rattle.floats.specs.Count.{at}
 use Rattle.floats.proofs.Value.{div_at}
 use Rattle.floats.proofs.Rounded.{Finite, finite_round}
 use Rattle.vec2.specs.Length.{digits_up, nearest_of}

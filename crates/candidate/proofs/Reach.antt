@@ -5,7 +5,7 @@ use mathlib.Core.Logic.{inl, inr}
 use Prim.Native.Nat.{ℕ, zero, suc, ◌+◌, ◌*◌, ◌^◌, ◌≤◌, ◌<◌, zero-le}
 use native.Mathlib.Nat.{lt_of_lt_of_le, lt_of_not-le, mul-le-mul, zero-mul, mul-pos, mul_comm, mul_assoc, zero-lt-suc, lt_irrefl}
 use native.Mathlib.Omega.{arith}
-use mathlib.Core.Bool.{Bool, true, false, not, ◌||◌, cond, false≢true, true≢false}
+use mathlib.Core.Bool.{Bool, true, false, ◌||◌, cond, false≢true, true≢false}
 use lib.IntN.{ℤ, pos, nat_abs}
 use lib.Dec.{T, ltb, lit<, lit≤}
 use lib.Pow.{pow_pos}

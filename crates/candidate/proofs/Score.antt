@@ -3,9 +3,9 @@ use mathlib.Core.Path.{◌≡◌, refl, sym, ap, ◌∙◌, subst}
 use Prim.Native.Nat.{ℕ, suc, ◌+◌, ◌*◌, ◌^◌, ◌≤◌, ◌<◌}
 use native.Mathlib.Nat.{le_refl, le_trans, le_of_eq, le_of_lt, lt_of_not-le, le_of_suc-le-suc, le_of_mul-le-mul_right, mul-one, one-mul, mul_assoc, mul_right_comm, mul-le-mul, mul-le-mul_right, mul-pos}
 use native.Mathlib.Omega.{arith}
-use mathlib.Core.Bool.{true, false, not, true≢false}
+use mathlib.Core.Bool.{true, false, true≢false}
 use lib.IntN.{ℤ, pos, negsuc}
-use lib.Dec.{T, ltb, ltb→lt, lit<}
+use lib.Dec.{T, ltb→lt, lit<}
 use lib.Pow.{pow_pos}
 use lib.Ieee.{Float, nan, inf, fin, binary32, up, down, round, mul, div, lt, le}
 use lib.Ieee.Fits.{up_pos, down_pos}

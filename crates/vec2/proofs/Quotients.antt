@@ -1,5 +1,5 @@
 -- Whole numbers of at most 24 digits as f32, divided by 64 and by a power of two. Assumes nothing.
-use Rattle.std.proofs.Common.{◌≡◌, ℕ, ◌*◌, ◌^◌, ◌<◌, ◌≤◌, false, T, pos, ap, ◌∙◌, mul_comm, mul-one, lit<, lit≤, le→leb, pow_pos, pow_mono}
+use Rattle.std.proofs.Common.{◌≡◌, ℕ, ◌*◌, ◌^◌, ◌≤◌, false, T, pos, ap, ◌∙◌, mul_comm, mul-one, lit<, lit≤, le→leb, pow_pos, pow_mono}
 use lib.Ieee.{Float, binary32, round, div, of_int, of_bits, in_float}
 use lib.Ieee.Exact.{HasValue}
 use lib.Ieee.Back.{round_whole}

@@ -107,7 +107,7 @@ module _ (t : Rows) where
     next_after : (i : ℕ) (rows : List Row) (r : Row) → next_from i (rows ++ (r ∷ [])) layer ≡ cond (is_layer r.held.layer_id layer) (one_more r.index) (next_from i rows layer)
     unfolding next_from
     next_after i [] r = refl
-    next_after i (q ∷ rows) r = next_after _ rows r
+    next_after i (q ∷ rows) r = next_after (cond (is_layer q.held.layer_id layer) (one_more q.index) i) rows r
 
     pub next_rows : (n : ℕ) → next_index t.words n layer ≡ next_from 0 (rows_to t n) layer
     unfolding next_index rows_to next_from row_of is_in record_at

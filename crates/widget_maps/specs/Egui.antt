@@ -1,6 +1,6 @@
 -- WidgetRects of widget_rect.rs in its own terms: `by_layer` has a list for each layer, `by_id` an index and a record for ids (lines 104 to 116), in the order of
 -- the Rust's text. Definitions only.
-use Rattle.std.specs.Prelude.{ℕ, zero, suc, Bool, cond, List, [], ◌∷◌, ◌++◌, map, eqb, ltb, length, take, drop, set}
+use Rattle.std.specs.Prelude.{ℕ, suc, Bool, cond, List, [], ◌∷◌, ◌++◌, eqb, ltb, length, take, drop, set}
 use Rattle.refusal.specs.Refusal.{none, full, lowest}
 use Rattle.layers.specs.declared.LayerId.{LayerId}
 use Rattle.layers.specs.Layers.{is_layer}

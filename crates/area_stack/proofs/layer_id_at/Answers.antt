@@ -1,5 +1,5 @@
 use Rattle.layer_queries.proofs.Tops.{all_left, none_left, last_found, less_left}
-use Rattle.area_stack.specs.Stack.{hit_row, layer_id_at}
+use Rattle.area_stack.specs.Stack.{layer_id_at}
 use Rattle.area_stack.proofs.layer_id_at.Goals as goal
 
 pub loop-k-init : goal.loop-k-init

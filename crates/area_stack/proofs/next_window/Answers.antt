@@ -1,5 +1,4 @@
 use mathlib.Core.Path.{refl}
-use Prim.Native.Nat.{◌-◌}
 use Rattle.area_stack.proofs.WindowRows.{none_found, one_found, one_passed}
 use Rattle.area_stack.proofs.next_window.Goals as goal
 

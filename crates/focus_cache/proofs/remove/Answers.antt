@@ -20,9 +20,10 @@ overflow_add-kept c = omega (arith, few_left _ _ _ _ _ _ c.loop-i.invariant.1)
 pub loop-i-preserved : goal.loop-i-preserved
 loop-i-preserved c =
     let next : Removed (cache_in c.args.ids.now c.args.rects.now) (held_in c.args.count c.args.ids.now c.args.rects.now) c.args.id (cache_in c.if-here-id.ids c.if-here-id.rects) c.if-here-id.kept (c.loop-i.i + 1) =
-        elim c.if-here-id.branch [
-        then-here-id w ↦ rw (w.ids-is, w.rects-is, w.kept-is) (remove_kept _ _ _ _ _ _ c.loop-i.invariant.1 (omega arith) _ _ w.if-here-id.true w.rect_at.ensures w.put.ensures)
-        | else-here-id w ↦ rw (w.ids-is, w.rects-is, w.kept-is) (remove_passed _ _ _ _ _ _ c.loop-i.invariant.1 (omega arith) w.if-here-id.false) ] in
+    elim c.if-here-id.branch [
+      | then-here-id w ↦ rw (w.ids-is, w.rects-is, w.kept-is) (remove_kept _ _ _ _ _ _ c.loop-i.invariant.1 (omega arith) _ _ w.if-here-id.true w.rect_at.ensures w.put.ensures)
+      | else-here-id w ↦ rw (w.ids-is, w.rects-is, w.kept-is) (remove_passed _ _ _ _ _ _ c.loop-i.invariant.1 (omega arith) w.if-here-id.false)
+    ] in
     (omega arith, next)
 
 pub shape_of-ids : goal.shape_of-ids

@@ -1,10 +1,11 @@
 -- `focus_end::find_widget_in_direction` meets its contract. Assumes nothing.
+use mathlib.Core.Path.{refl}
 use native.Mathlib.Omega.{arith}
 use Rattle.focus_end.proofs.Calls.{unfocused, fresh_few, fresh_fits, fresh_part, uncached, finds}
 use Rattle.focus_end.proofs.find_widget_in_direction.Goals as goal
 
 pub returns-in_default : goal.returns-in_default
-returns-in_default c = unfocused _ _ _ _ _ _ _ c.focused_widget.ensures c.enum_told-1.given.1 c.held.ensures
+returns-in_default c = unfocused _ _ _ _ _ _ _ c.focused_widget.ensures c.in_default.is c.held.ensures
 
 pub slice_bounds-rect_of-end : goal.slice_bounds-rect_of-end
 slice_bounds-rect_of-end c = (fresh_fits _ _ _ _ _ c.retain-n.ensures.0 _ c.retain-n.ensures.1).0
@@ -26,7 +27,7 @@ rect_of-requires c = omega (arith, fresh_part _ _ _ _ _ c.retain-n.ensures.0 _ c
 
 pub returns-in_default-rect_of : goal.returns-in_default-rect_of
 returns-in_default-rect_of c =
-    uncached _ _ _ _ _ c.retain-n.ensures.0 _ c.retain-n.ensures.1 _ _ c.focused_widget.ensures _ _ c.focused-1.given.1 _ c.rect_of.ensures c.enum_told-in_default-rect_of-1.given.1
+    uncached _ _ _ _ _ c.retain-n.ensures.0 _ c.retain-n.ensures.1 _ _ c.in-Held.ensures _ _ refl _ c.rect_of.ensures c.in_default-rect_of.is
 
 pub slice_bounds-find-end : goal.slice_bounds-find-end
 slice_bounds-find-end c = (fresh_fits _ _ _ _ _ c.retain-n.ensures.0 _ c.retain-n.ensures.1).0
@@ -45,4 +46,4 @@ slice_bounds-find-end-4 c = (fresh_part _ _ _ _ _ c.retain-n.ensures.0 _ c.retai
 
 pub returns : goal.returns
 returns c =
-    finds _ _ _ _ _ c.retain-n.ensures.0 _ c.retain-n.ensures.1 _ _ c.focused_widget.ensures _ _ c.focused-1.given.1 _ c.rect_of.ensures _ _ c.current-1.given.1 c.find.ensures
+    finds _ _ _ _ _ c.retain-n.ensures.0 _ c.retain-n.ensures.1 _ _ c.in-Held.ensures _ _ refl _ c.in-At.ensures _ _ refl c.find.ensures

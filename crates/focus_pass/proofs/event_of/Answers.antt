@@ -13,4 +13,4 @@ returns-in-2 c = rw c.in-2.is
 
 pub returns-in_default : goal.returns-in_default
 unfolding event_of
-returns-in_default c = search (ne_eqb, c.in_default.rest)
+returns-in_default c = search (ne_eqb, c.in_default.in_default-own.rest)

@@ -10,4 +10,3 @@ returns-then-pressed c = search key_down
 
 pub returns-else-pressed : goal.returns-else-pressed
 returns-else-pressed c = search key_up
-

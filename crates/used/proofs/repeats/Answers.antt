@@ -15,8 +15,9 @@ pub loop-i-preserved : goal.loop-i-preserved
 loop-i-preserved c =
     shown_more c.args.ids.now c.loop-i.i _ c.loop-i.invariant
     (elim c.if-joined-seen.branch [
-        then-joined-seen+else-stands_below w ↦ unfound_new c.args.ids.now c.loop-i.i _ w.stands_below.ensures (omega arith) w.if-stands_below.false
-        | else-joined-seen w ↦ unset_new c.args.ids.now c.loop-i.i _ c.loop-i.invariant w.if-joined-seen.false ])
+      | then-joined-seen+else-stands_below w ↦ unfound_new c.args.ids.now c.loop-i.i _ w.stands_below.ensures (omega arith) w.if-stands_below.false
+      | else-joined-seen w ↦ unset_new c.args.ids.now c.loop-i.i _ c.loop-i.invariant w.if-joined-seen.false
+    ])
 
 pub returns : goal.returns
 returns c =
