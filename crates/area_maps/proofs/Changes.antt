@@ -1,7 +1,7 @@
 -- What the calls that change a layer's row do in egui's terms, and that they keep the rows sound. Assumes nothing.
-use mathlib.Core.Path.{◌≡◌, refl, sym, ap, ◌∙◌}
-use mathlib.Core.Bool.{Bool, true, false, true≢false, cond, not, ◌&&◌, ◌||◌}
-use mathlib.Core.List.{List, [], ◌∷◌, ◌++◌, map}
+use mathlib.Core.Path.{◌≡◌, refl, sym, ap}
+use mathlib.Core.Bool.{Bool, true, false, not}
+use mathlib.Core.List.{List, [], ◌∷◌}
 use Prim.Native.Nat.{ℕ, suc, ◌≤◌}
 use native.Mathlib.Omega.{arith}
 use lib.Dec.{eqb}
@@ -9,16 +9,14 @@ use lib.ListN.{length, take}
 use Rattle.refusal.specs.Limits.{last_order}
 use Rattle.area.specs.declared.AreaState.{AreaState}
 use Rattle.layers.specs.declared.LayerId.{LayerId}
-use Rattle.layers.specs.Layers.{is_layer}
 use Rattle.stacking.specs.Lists.{some}
-use Rattle.stacking.specs.Stacking.{holds, Distinct, Orders, Pairs}
+use Rattle.stacking.specs.Stacking.{holds}
 use Rattle.stacking.proofs.Layers.{held_some, some_held}
 use Rattle.layer_rows.specs.declared.Row.{Row}
-use Rattle.layer_rows.specs.Rows.{row_of, marked}
+use Rattle.layer_rows.specs.Rows.{marked}
 use Rattle.layer_queries.specs.Queries.{shown_last, is_child_row}
 use Rattle.layer_table.specs.Layers.{raised_row, to_top}
-use Rattle.area_table.specs.declared.Held.{Held}
-use Rattle.area_table.specs.declared.Held.TheVariants.{Vacant, Occupied}
+use Rattle.area_table.specs.declared.Held.TheVariants.{Vacant}
 use Rattle.area_table.specs.Table.{Entry, get_in, insert_in}
 use Rattle.area_table.specs.Table as Table
 use Rattle.area_stack.specs.Stack.{shown_row}

@@ -1,6 +1,6 @@
 -- What the end of a pass does in egui's terms, and that it keeps the rows sound. Assumes nothing.
-use mathlib.Core.Path.{◌≡◌, refl, sym, ap, ◌∙◌}
-use mathlib.Core.Bool.{Bool, true, false, true≢false, not, ◌||◌}
+use mathlib.Core.Path.{◌≡◌, sym, ap, ◌∙◌}
+use mathlib.Core.Bool.{true, true≢false, not}
 use mathlib.Core.List.{List, [], ◌∷◌}
 use Prim.Native.Nat.{ℕ, ◌≤◌}
 use native.Mathlib.Omega.{arith}
@@ -10,8 +10,8 @@ use lib.Seq.{take_all}
 use Rattle.refusal.specs.Limits.{last_order}
 use Rattle.layers.specs.declared.LayerId.{LayerId}
 use Rattle.layers.specs.Layers.{is_layer}
-use Rattle.stacking.specs.Lists.{keep, some}
-use Rattle.stacking.specs.Stacking.{holds, Distinct, Orders, stacked, times}
+use Rattle.stacking.specs.Lists.{some}
+use Rattle.stacking.specs.Stacking.{holds, Orders, stacked, times}
 use Rattle.stacking.proofs.Lists.{some_count}
 use Rattle.stacking.proofs.Layers.{same_layers_lem, layer_itself}
 use Rattle.stacking.proofs.Stack.{stack_layers}
@@ -19,7 +19,7 @@ use Rattle.layer_rows.specs.declared.Row.{Row}
 use Rattle.layer_rows.specs.Rows.{row_of}
 use Rattle.layer_queries.specs.Queries.{shown_last, is_child_row}
 use Rattle.layer_sort.specs.Sort.{end_rows}
-use Rattle.layer_sort.proofs.Meaning.{raised_in, distinct_once, once_distinct, ended_length, ended_row}
+use Rattle.layer_sort.proofs.Meaning.{raised_in, distinct_once, once_distinct, ended_row}
 use Rattle.layer_sort.proofs.Stacked.{ended_layers}
 use Rattle.area_table.specs.Table.{Entry}
 use Rattle.area_maps.specs.Egui.{place_in}

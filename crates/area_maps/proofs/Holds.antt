@@ -1,7 +1,7 @@
 -- After every list of calls the record is sound and means what egui holds, and so answers as egui does. Assumes nothing.
 use mathlib.Core.Path.{◌≡◌, refl, sym, ap, ◌∙◌}
-use mathlib.Core.List.{List, [], ◌∷◌}
-use Prim.Native.Nat.{ℕ, min, ◌≤◌}
+use mathlib.Core.List.{[], ◌∷◌}
+use Prim.Native.Nat.{ℕ}
 use native.Mathlib.Omega.{arith}
 use lib.ListN.{length, take}
 use lib.Seq.{take-take}
@@ -10,7 +10,6 @@ use Rattle.emath.specs.declared.Pos2.{Pos2}
 use Rattle.area.specs.declared.AreaState.{AreaState}
 use Rattle.layers.specs.declared.LayerId.{LayerId}
 use Rattle.stacking.specs.Stacking.{Distinct, Orders, Pairs}
-use Rattle.layer_rows.specs.declared.Row.{Row}
 use Rattle.layer_rows.specs.Rows.{held_rows, rows_of, row_of, spot_in}
 use Rattle.layer_rows.proofs.Rows.{held_length}
 use Rattle.layer_queries.specs.Queries.{shown_last, is_visible_row, is_sublayer_row, is_top_row, parent_in, last_of, compared_by}
@@ -24,7 +23,7 @@ use Rattle.areas.specs.Areas.{new_areas, stack_of, areas_in, tables_of, layers_o
 use Rattle.area_maps.specs.Egui.{place_in}
 use Rattle.area_maps.specs.Egui as Egui
 use Rattle.area_maps.specs.Calls.{Call, SetState, MoveToTop, SetSublayer, EndPass, Reset, Calls, record_step, egui_step, record_after, egui_after}
-use Rattle.area_maps.specs.Meaning.{meaning, meaning_of, entries_in}
+use Rattle.area_maps.specs.Meaning.{meaning_of, entries_in}
 use Rattle.area_maps.proofs.Sound.{Sound, SoundAreas}
 use Rattle.area_maps.proofs.Pushed.{no_pairs}
 use Rattle.area_maps.proofs.Queries.{query_order, query_compare, query_sublayer, query_parent, query_top, query_listed_visible, query_children, query_get, query_hit, query_windows}

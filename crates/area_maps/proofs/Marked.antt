@@ -1,10 +1,10 @@
 -- Laws of rows with a layer's row changed, in egui's terms: what is held of each layer, the list, and the places. Assumes nothing.
 use mathlib.Core.Path.{◌≡◌, refl, sym, ap, ◌∙◌}
 use mathlib.Core.Bool.{Bool, true, false, true≢false, cond, ◌||◌}
-use mathlib.Core.List.{List, [], ◌∷◌, ◌++◌, map}
-use Prim.Native.Nat.{ℕ, suc, ◌≤◌}
+use mathlib.Core.List.{List, [], ◌∷◌, ◌++◌}
+use Prim.Native.Nat.{ℕ, ◌≤◌}
 use native.Mathlib.Omega.{arith}
-use lib.ListN.{length, get_or, take, length-append}
+use lib.ListN.{length, take, length-append}
 use lib.Seq.{take-append-le}
 use Rattle.layers.specs.declared.LayerId.{LayerId}
 use Rattle.layers.specs.Layers.{is_layer}
@@ -12,7 +12,7 @@ use Rattle.stacking.specs.Lists.{some}
 use Rattle.stacking.specs.Stacking.{holds}
 use Rattle.stacking.proofs.Layers.{same_layers_lem, layer_itself}
 use Rattle.layer_rows.specs.declared.Row.{Row}
-use Rattle.layer_rows.specs.Rows.{new_row, spot_in, row_of, marked}
+use Rattle.layer_rows.specs.Rows.{new_row, row_of, marked}
 use Rattle.layer_rows.proofs.Marks.{row_none, row_cons}
 use Rattle.area_maps.specs.Egui.{pushed}
 use Rattle.area_maps.specs.Meaning.{layers_in}

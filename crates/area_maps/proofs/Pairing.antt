@@ -1,6 +1,6 @@
 -- `set_sublayer` on the record by value does in egui's terms what egui's text does, and keeps the record sound. Assumes nothing.
-use mathlib.Core.Path.{◌≡◌, refl, sym, ap, ◌∙◌}
-use mathlib.Core.Bool.{Bool, true, false, true≢false, cond, not, ◌&&◌, ◌||◌}
+use mathlib.Core.Path.{◌≡◌, refl, ap, ◌∙◌}
+use mathlib.Core.Bool.{Bool, true, false, cond, not, ◌&&◌, ◌||◌}
 use mathlib.Core.List.{List}
 use Prim.Native.Nat.{ℕ, zero, suc, ◌≤◌}
 use native.Mathlib.Omega.{arith}
@@ -25,7 +25,7 @@ use Rattle.area_maps.specs.Calls.{SetSublayer, egui_step}
 use Rattle.area_maps.specs.Meaning.{layers_in, meaning_of, entries_in}
 use Rattle.area_maps.proofs.Sound.{Sound, SoundAreas}
 use Rattle.area_maps.proofs.Marked.{layers_marked}
-use Rattle.area_maps.proofs.Pushed.{and-true, or_false, turned}
+use Rattle.area_maps.proofs.Pushed.{turned}
 use Rattle.area_maps.proofs.Sublayers.{sublayer_means, sound_sublayer}
 use Rattle.area_maps.proofs.Queries.{refusal_family}
 use Rattle.area_maps.proofs.Steps.{layer_taken, full_same, sound_stack, stack_means}

@@ -3,12 +3,12 @@
 use mathlib.Core.Path.{◌≡◌, refl, sym, ap, ◌∙◌}
 use mathlib.Core.Bool.{Bool, true, false, cond, ◌||◌}
 use mathlib.Core.List.{List, [], ◌∷◌, map}
-use Prim.Native.Nat.{ℕ, zero, suc, ◌+◌, ◌*◌, ◌/◌, min, max, ◌<◌, ◌≤◌}
+use Prim.Native.Nat.{ℕ, zero, suc, ◌+◌, ◌*◌, ◌/◌, max, ◌<◌, ◌≤◌}
 use native.Mathlib.Decide.{dec_lt}
 use native.Mathlib.Omega.{arith}
 use lib.Dec.{eqb, ltb}
 use lib.ListN.{length}
-use borrow.Author.Tests.{lt-ltb, le-ltb, ltb-true, ltb-false}
+use borrow.Author.Tests.{lt-ltb, le-ltb, ltb-true}
 use Rattle.refusal.specs.Limits.{last_order}
 use Rattle.refusal.specs.Refusal.{lowest, kept}
 use Rattle.refusal.proofs.Laws.{both_none}
@@ -18,13 +18,12 @@ use Rattle.layers.specs.declared.LayerId.{LayerId}
 use Rattle.layers.specs.Layers.{layer_refusal}
 use Rattle.stacking.specs.Lists.{some}
 use Rattle.layer_rows.specs.declared.Row.{Row}
-use Rattle.layer_rows.specs.Rows.{held_rows, rows_on, row_of, spot_in, marked}
+use Rattle.layer_rows.specs.Rows.{row_of, spot_in, marked}
 use Rattle.layer_rows.proofs.Rows.{held_length}
 use Rattle.layer_rows.proofs.Table.{held_on, on_length}
-use Rattle.layer_rows.proofs.Marks.{mark_length, spot_most}
+use Rattle.layer_rows.proofs.Marks.{mark_length}
 use Rattle.layer_table.specs.Layers.{room_in}
-use Rattle.area_table.specs.declared.Held.{Held}
-use Rattle.area_table.specs.declared.Held.TheVariants.{Vacant, Occupied}
+use Rattle.area_table.specs.declared.Held.TheVariants.{Vacant}
 use Rattle.area_table.specs.Table.{Entry, room_of, held_in, spot_of, put_in, entries_of, get_in, insert_in, elem}
 use Rattle.area_table.specs.Table as Table
 use Rattle.area_table.proofs.Entries.{entries_put, entries_count, put_room, insert_distinct, insert_get, distinct_fits}
@@ -34,7 +33,7 @@ use Rattle.areas.specs.Areas.{tables_of, stack_of, areas_in, areas_of, state_set
 use Rattle.area_maps.specs.Egui.{pushed}
 use Rattle.area_maps.specs.Egui as Egui
 use Rattle.area_maps.specs.Calls.{SetState, egui_step}
-use Rattle.area_maps.specs.Meaning.{layers_in, meaning, meaning_of, entries_in}
+use Rattle.area_maps.specs.Meaning.{layers_in, meaning_of, entries_in}
 use Rattle.area_maps.proofs.Sound.{has_id, Sound, SoundAreas}
 use Rattle.area_maps.proofs.Marked.{layers_marked}
 use Rattle.area_maps.proofs.Changes.{length_layers, marked_known, sound_marked, state_means}

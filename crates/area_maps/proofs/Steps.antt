@@ -1,31 +1,26 @@
 -- Each call on the record by value does in egui's terms what egui's text does, and keeps the record sound. Assumes nothing.
-use mathlib.Core.Path.{◌≡◌, refl, sym, ap, ◌∙◌}
-use mathlib.Core.Bool.{Bool, true, false, true≢false, cond, not, ◌&&◌, ◌||◌}
-use mathlib.Core.List.{List, [], ◌∷◌, ◌++◌, map}
-use Prim.Native.Nat.{ℕ, zero, suc, ◌+◌, ◌*◌, ◌/◌, max, ◌<◌, ◌≤◌}
+use mathlib.Core.Path.{◌≡◌, refl, ap, ◌∙◌}
+use mathlib.Core.Bool.{Bool, true, false, cond}
+use mathlib.Core.List.{List}
+use Prim.Native.Nat.{ℕ, zero, suc, ◌/◌, ◌≤◌}
 use native.Mathlib.Omega.{arith}
 use lib.Dec.{eqb, ltb}
-use lib.ListN.{length, take}
-use borrow.Author.Tests.{ltb-true, ltb-false, lt-ltb, le-ltb, eqb-true}
+use lib.ListN.{length}
+use borrow.Author.Tests.{ltb-false}
 use Rattle.refusal.specs.Limits.{last_order}
-use Rattle.refusal.specs.Refusal.{none, full, lowest, id_refusal, code_refusal, kept}
+use Rattle.refusal.specs.Refusal.{lowest, id_refusal, code_refusal, kept}
 use Rattle.refusal.proofs.Laws.{both_none}
-use Rattle.area.specs.declared.AreaState.{AreaState}
-use Rattle.area.specs.Area.{state_refusal}
 use Rattle.layers.specs.declared.LayerId.{LayerId}
-use Rattle.layers.specs.Layers.{is_layer, layer_refusal}
+use Rattle.layers.specs.Layers.{layer_refusal}
 use Rattle.layer_rows.specs.declared.Row.{Row}
-use Rattle.layer_rows.specs.Rows.{held_rows, rows_on, row_of, spot_in, marked}
 use Rattle.layer_rows.proofs.Rows.{held_length}
 use Rattle.layer_rows.proofs.Table.{held_on, on_length}
 use Rattle.layer_sort.specs.Sort.{end_rows}
 use Rattle.layer_sort.proofs.Meaning.{ended_length}
-use Rattle.layer_rows.proofs.Marks.{mark_length}
-use Rattle.layer_table.specs.Layers.{room_in, same, raised_row, child_row, full_refusal, pair_refusal, family_refusal, other_parent, to_top, top_refusal, with_sublayer, sublayer_refusal}
+use Rattle.layer_table.specs.Layers.{room_in, raised_row, full_refusal, to_top, top_refusal}
 use Rattle.layer_table.proofs.Changes.{room_left}
-use Rattle.area_table.specs.Table.{Entry}
 use Rattle.areas.specs.declared.Areas.{Areas}
-use Rattle.areas.specs.Areas.{stack_of, areas_in, with_stack, to_top_of, sublayer_set, pass_ended}
+use Rattle.areas.specs.Areas.{stack_of, with_stack, to_top_of, pass_ended}
 use Rattle.area_maps.specs.Egui.{pushed}
 use Rattle.area_maps.specs.Egui as Egui
 use Rattle.area_maps.specs.Calls.{MoveToTop, egui_step}
@@ -33,9 +28,7 @@ use Rattle.area_maps.specs.Meaning.{layers_in, meaning, meaning_of, entries_in}
 use Rattle.area_maps.proofs.Sound.{Sound, SoundAreas}
 use Rattle.area_maps.proofs.Marked.{layers_marked}
 use Rattle.area_maps.proofs.Changes.{length_layers, sound_marked, top_means}
-use Rattle.area_maps.proofs.Sublayers.{sublayer_means, sound_sublayer}
 use Rattle.area_maps.proofs.Ended.{sound_ended, ended_means}
-use Rattle.area_maps.proofs.Queries.{refusal_family}
 
 -- ---- what a refusal that is none says
 pub layer_taken : (l : LayerId) → layer_refusal l ≡ 0 → (eqb l.id 0 ≡ false) × (l.order ≤ last_order)

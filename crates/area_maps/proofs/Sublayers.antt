@@ -5,7 +5,7 @@ use mathlib.Core.List.{List, [], ◌∷◌}
 use Prim.Native.Nat.{ℕ, ◌≤◌}
 use native.Mathlib.Omega.{arith}
 use lib.Dec.{eqb}
-use lib.ListN.{length, take}
+use lib.ListN.{length}
 use borrow.Author.Tests.{eqb-true, eq-eqb}
 use Rattle.refusal.specs.Limits.{last_order}
 use Rattle.layers.specs.declared.LayerId.{LayerId}
@@ -25,7 +25,7 @@ use Rattle.area_maps.specs.Egui as Egui
 use Rattle.area_maps.specs.Meaning.{layers_in, child_in, meaning}
 use Rattle.area_maps.proofs.Sound.{Sound}
 use Rattle.area_maps.proofs.Marked.{row_marked, field_same, layers_marked}
-use Rattle.area_maps.proofs.Pushed.{and-true, or_false, turned, pushed_still, pushed_self, one_pair}
+use Rattle.area_maps.proofs.Pushed.{and-true, or_false, pushed_still, pushed_self, one_pair}
 use Rattle.area_maps.proofs.Changes.{length_layers, mark_longer, sound_marked, places}
 
 -- what holds of no row holds of nothing that is held

@@ -1,5 +1,5 @@
 -- Areas of memory/mod.rs (lines 1199 to 1440) in its own terms, its maps, sets and lists. Definitions only.
-use Rattle.std.specs.Prelude.{ℕ, suc, Bool, true, false, cond, not, ◌&&◌, ◌||◌, List, [], ◌∷◌, ◌++◌, eqb, ltb, length}
+use Rattle.std.specs.Prelude.{ℕ, suc, Bool, false, cond, not, ◌&&◌, ◌||◌, List, [], ◌∷◌, ◌++◌, eqb, ltb, length}
 use Rattle.refusal.specs.Refusal.{none, full, bad_family, lowest}
 use Rattle.emath.specs.declared.Pos2.{Pos2}
 use Rattle.area.specs.declared.AreaState.{AreaState}

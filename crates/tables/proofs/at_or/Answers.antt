@@ -6,7 +6,6 @@ use native.Mathlib.Nat.{not-suc-le-zero, le_of_suc-le-suc}
 use lib.ListN.{length, get_or, get_or-eq_default}
 use Rattle.tables.proofs.at_or.Goals as goal
 
--- `tables::at_or` meets its contract. Assumes nothing.
 -- where something stands, the default does not matter
 any-default : (xs : List ℕ) (i d e : ℕ) → i < length xs → get_or xs i d ≡ get_or xs i e
 any-default [] i d e h = absurd (not-suc-le-zero h)

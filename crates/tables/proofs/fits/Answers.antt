@@ -7,7 +7,6 @@ use lib.Dec.{leb}
 use borrow.Author.Tests.{leb-true, leb-false, le-leb, lt-leb}
 use Rattle.tables.proofs.fits.Goals as goal
 
--- `tables::fits` meets its contract. Assumes nothing.
 room_left : (at n room : ℕ) → at ≤ room → leb n (room - at) ≡ leb (at + n) room
 room_left at n room h = go (leb n (room - at)) refl
   where

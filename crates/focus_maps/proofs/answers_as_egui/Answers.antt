@@ -1,10 +1,6 @@
 -- `focus_maps::answers_as_egui` meets its contract. Assumes nothing.
 use Rattle.focus_maps.proofs.Means.{focused_answer, last_answer, layer_answer_lem}
-use Rattle.focus_maps.proofs.answers_as_egui.Statement.{statement}
-use Rattle.focus_maps.proofs.answers_as_egui.Tie as tie
+use Rattle.focus_maps.proofs.answers_as_egui.Goals as goal
 
-returns : tie.Need-returns
+pub returns : goal.returns
 returns c = (λ f. focused_answer f.nav, λ f id. last_answer f.nav id, λ f. layer_answer_lem f.nav.top_modal_layer)
-
-pub answers-as-egui-spec : {M : Type 1} → statement M
-answers-as-egui-spec = tie.close (tie.spec returns)

@@ -1,0 +1,6 @@
+-- `focus_maps::record_means_egui` meets its contract. Assumes nothing.
+use Rattle.focus_maps.proofs.Holds.{holds}
+use Rattle.focus_maps.proofs.record_means_egui.Goals as goal
+
+pub returns : goal.returns
+returns c calls = (holds calls).1
