@@ -1,5 +1,5 @@
 -- The record answers every query as egui's Memory does that it means. Assumes nothing.
-use Rattle.core.specs.Prelude.{◌≡◌, ℕ, Bool, true, false, cond, not, ◌&&◌, ◌||◌, eqb}
+use Rattle.std.specs.Prelude.{◌≡◌, ℕ, Bool, true, false, cond, not, ◌&&◌, ◌||◌, eqb}
 use mathlib.Core.Path.{refl, sym, ap, ◌∙◌}
 use Rattle.refusal.specs.Refusal.{zero_id, id_refusal, answered}
 use Rattle.refusal.specs.Refusal.{none as notRefused}

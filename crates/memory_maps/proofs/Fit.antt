@@ -1,5 +1,5 @@
 -- What holds of the parts of the record after every call. Assumes nothing.
-use Rattle.core.specs.Prelude.{◌≡◌}
+use Rattle.std.specs.Prelude.{◌≡◌}
 use Rattle.refusal.specs.Limits.{layers, cached}
 use Rattle.focus_cache.specs.Cache.{room_in}
 use Rattle.areas.specs.declared.Areas.{Areas}

@@ -1,5 +1,5 @@
 -- What a call that is not refused leaves of the focus, where Memory makes it: the laws of crate focus_maps for one call, and those of begin and end for a list of events or entries. Assumes nothing.
-use Rattle.core.specs.Prelude.{◌≡◌, ℕ, zero, suc, ◌≤◌, List, length}
+use Rattle.std.specs.Prelude.{◌≡◌, ℕ, zero, suc, ◌≤◌, List, length}
 use mathlib.Core.Path.{refl, sym, ap, ◌∙◌}
 use native.Mathlib.Omega.{arith}
 use Rattle.refusal.specs.Refusal.{kept}

@@ -1,5 +1,5 @@
 -- After every list of calls the record is fit and means what egui holds, and so refuses and answers as egui does. Assumes nothing.
-use Rattle.core.specs.Prelude.{◌≡◌, false, [], ◌∷◌}
+use Rattle.std.specs.Prelude.{◌≡◌, false, [], ◌∷◌}
 use mathlib.Core.Path.{ap, ◌∙◌, subst}
 use Rattle.refusal.specs.Limits.{layers, cached}
 use Rattle.areas.specs.Areas.{new_areas}

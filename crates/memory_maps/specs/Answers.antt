@@ -1,5 +1,5 @@
 -- What the record answers, and what egui's Memory does: that they are the same, query by query and for every argument. Definitions only.
-use Rattle.core.specs.Prelude.{◌≡◌, ℕ}
+use Rattle.std.specs.Prelude.{◌≡◌, ℕ}
 use Rattle.std.proofs.Math.Option.{Option, none, some}
 use Rattle.refusal.specs.Refusal.{id_refusal, answered}
 use Rattle.emath.specs.declared.Pos2.{Pos2}

@@ -1,5 +1,5 @@
 -- What the record by value means in egui's terms, document 01's refusals over egui's state, and what a list of calls leaves of both. Definitions only.
-use Rattle.core.specs.Prelude.{ℕ, cond, List, [], ◌∷◌, length, ◌==◌, nat_lt}
+use Rattle.std.specs.Prelude.{ℕ, cond, List, [], ◌∷◌, length, ◌==◌, nat_lt}
 use Rattle.std.proofs.Math.Option.{Option, none, some}
 use Rattle.refusal.specs.Refusal.{full, lowest, id_refusal, code_refusal, kept}
 use Rattle.refusal.specs.Refusal.{none as notRefused}

@@ -1,5 +1,5 @@
 -- Memory of memory/mod.rs (its fields from line 31 on, and lines 786 to 1187) with one viewport, in its own terms, by the methods of its Areas and its Focus. Definitions only.
-use Rattle.core.specs.Prelude.{ℕ, Bool, true, false, cond, not, ◌&&◌, ◌||◌, List, ◌==◌}
+use Rattle.std.specs.Prelude.{ℕ, Bool, true, false, cond, not, ◌&&◌, ◌||◌, List, ◌==◌}
 use Rattle.std.proofs.Math.Option.{Option, none, some}
 use Rattle.emath.specs.declared.Pos2.{Pos2}
 use Rattle.emath.specs.declared.Rect.{Rect}

@@ -1,7 +1,7 @@
 // What the record `Memory` means in egui's own terms: theorems only, nothing to run.
 #![tactic(auto)]
 
-ghost use Rattle.core.specs.Prelude.{◌≡◌};
+ghost use Rattle.std.specs.Prelude.{◌≡◌};
 ghost use Rattle.refusal.specs.Limits.{layers, cached};
 ghost use Rattle.memory_rules.specs.Calls.{Call, done_by};
 ghost use Rattle.memory_maps.specs.Calls.{Calls, meaning_of, refusal_of, record_after, egui_after};

@@ -1,0 +1,8 @@
+-- `memory::gained_focus` meets its contract. Assumes nothing.
+use Rattle.memory.proofs.Parts.{answers}
+use Rattle.memory_rules.specs.Memory.{of_id, gained_focus}
+use Rattle.memory.proofs.gained_focus.Goals as goal
+
+pub returns : goal.returns
+returns c =
+    search (answers c.args.m (λ m. of_id gained_focus m c.args.id))
