@@ -72,7 +72,9 @@ fn edit(path: &Path) -> Option<Edit> {
     let old = field("old:");
     let code = read(&file);
     let line = code.lines().find(|line| line.contains(&old))?;
-    let runs = file.extension()? == "rt" && !line.contains(['⌜', '→', '≡', '×']);
+    let runs = file.extension()? == "rt"
+        && !line.contains("ensures")
+        && !line.contains(['→', '≡', '×']);
     runs.then(|| Edit {
         krate: name(krate),
         label: name(&path.with_extension("")),
