@@ -1,4 +1,4 @@
-// The focus record by value for C and Rust programs. Its forms that borrow it are exported by crate `focus` itself.
+// The focus record by value for C and Rust programs. Its forms that borrow it are exported by crate `focus_c`.
 #![tactic(auto)]
 
 ghost use Rattle.std.specs.Prelude.{◌≡◌};
