@@ -31,8 +31,9 @@ pub fn rows(out: &Path, sample: &Path, unreached: &Path) -> Vec<Row> {
 fn copy(out: &Path, sample: &Path) -> Result<PathBuf, String> {
     let folder = env::temp_dir().join(format!("port-{}", process::id()));
     fs::create_dir_all(&folder).map_err(|e| e.to_string())?;
-    let parts = ["-r", "crates", "crates.txt"];
-    run(Command::new("cp").args(parts).arg(&folder))?;
+    // What checks have kept is large, and no part of it.
+    let copied = "tar --exclude=out -cf - crates crates.txt | tar xf - -C \"$0\"";
+    run(Command::new("sh").args(["-c", copied]).arg(&folder))?;
     let replay = folder.join("crates/replay");
     fs::copy(sample, replay.join("stdin")).map_err(|e| e.to_string())?;
     let input = fs::File::open(sample).map_err(|e| e.to_string())?;
@@ -72,9 +73,8 @@ fn edit(path: &Path) -> Option<Edit> {
     let old = field("old:");
     let code = read(&file);
     let line = code.lines().find(|line| line.contains(&old))?;
-    let runs = file.extension()? == "rt"
-        && !line.contains("ensures")
-        && !line.contains(['→', '≡', '×']);
+    let runs =
+        file.extension()? == "rt" && !line.contains("ensures") && !line.contains(['→', '≡', '×']);
     runs.then(|| Edit {
         krate: name(krate),
         label: name(&path.with_extension("")),
@@ -113,27 +113,28 @@ fn row(folder: &Path, edit: &Edit, unreached: &str) -> Row {
     }
 }
 
-/// The line of the sample that the compiled program answers otherwise. (The interpreter, which `rt try` runs first, stops before the sample ends.)
+/// The line of the sample that the program answers otherwise. (`rt try` runs it compiled, and interpreted as far as that goes; it prints the answers once.)
 fn first_difference(folder: &Path) -> Option<String> {
+    let replay = folder.join("crates/replay");
+    let sample = fs::File::open(replay.join("stdin")).unwrap_or_else(|e| stop(&e.to_string()));
     let tried = Command::new("rt")
-        .args(["try", "replay"])
-        .current_dir(folder)
+        .arg("try")
+        .current_dir(&replay)
+        .stdin(sample)
         .output();
     let tried = tried.unwrap_or_else(|e| stop(&e.to_string()));
-    let said = String::from_utf8_lossy(&tried.stdout) + String::from_utf8_lossy(&tried.stderr);
-    let compiled = said
-        .split("the native program at -O0")
-        .nth(1)
-        .unwrap_or_else(|| stop(&format!("rt try: {said}")));
-    if compiled.starts_with(" ended and wrote what is expected") {
+    let said = String::from_utf8_lossy(&tried.stderr);
+    if !said.contains("checked: ") {
+        stop(&format!("rt try: {said}"));
+    }
+    let wanted = read(&replay.join("stdout"));
+    let found = String::from_utf8_lossy(&tried.stdout);
+    if found == wanted {
         return None;
     }
-    let byte = compiled
-        .split("at byte ")
-        .nth(1)
-        .and_then(|rest| rest.split(',').next());
-    let byte = byte.and_then(|byte| byte.parse::<usize>().ok());
-    let byte = byte.unwrap_or_else(|| stop(&format!("rt try: {said}")));
-    let answers = read(&folder.join("crates/replay/stdout"));
-    Some((1 + answers[..byte].matches('\n').count()).to_string())
+    let same = wanted
+        .lines()
+        .zip(found.lines())
+        .take_while(|(wanted, found)| wanted == found);
+    Some((1 + same.count()).to_string())
 }
