@@ -2,8 +2,6 @@
 use mathlib.Core.Path.{◌≡◌, refl, ap, ◌∙◌}
 use Prim.Native.Nat.{ℕ, zero, suc}
 use lib.Ieee.{Float, binary32, add, sub, mul, of_bits}
-use Rattle.refusal.specs.Refusal.{lowest, code_refusal}
-use Rattle.refusal.specs.Limits.{last_pivot}
 use Rattle.emath.specs.declared.Pos2.{Pos2}
 use Rattle.emath.specs.declared.Vec2.{Vec2}
 use Rattle.emath.specs.declared.Rect.{Rect}
@@ -11,7 +9,7 @@ use Rattle.emath.specs.Pos2.{round_pos}
 use Rattle.emath.specs.Rect.{from_min_size, round_rect}
 use Rattle.area.specs.declared.AreaState.{AreaState}
 use Rattle.area.specs.declared.PivotPos.TheVariants as PivotPos
-use Rattle.area.specs.Area.{position_of, extent_of, to_factor, left_top, with_left_top, rect_of, pivot_pos_at, size_at, state_refusal}
+use Rattle.area.specs.Area.{position_of, extent_of, to_factor, left_top, with_left_top, rect_of}
 
 pub high : (n : ℕ) → (n ≡ 0 → ⊥) → (n ≡ 1 → ⊥) → of_bits binary32 0x3f80_0000 ≡ to_factor n
 unfolding to_factor
@@ -38,8 +36,3 @@ module _ (s : AreaState) (v : Vec2) (fx fy : Float) (ev : v ≡ extent_of s.size
 pub placed : (s : AreaState) (p : Pos2) (v : Vec2) (w r : Rect) → p ≡ left_top s → v ≡ extent_of s.size → w ≡ from_min_size p v → r ≡ round_rect w → r ≡ rect_of s
 unfolding rect_of
 placed s p v w r ep ev ew er = er ∙ ap round_rect ew ∙ λ i. round_rect (from_min_size (ep i) (ev i))
-
-pub refused : (s : AreaState) (a b c d e f n : ℕ) → a ≡ code_refusal s.pivot.x last_pivot → b ≡ code_refusal s.pivot.y last_pivot → c ≡ lowest a b
-    → d ≡ pivot_pos_at s.pivot_pos → e ≡ size_at s.size → f ≡ lowest d e → n ≡ lowest c f → n ≡ state_refusal s
-unfolding state_refusal
-refused s a b c d e f n ea eb ec ed ee ef en = en ∙ (λ i. lowest (ec i) (ef i)) ∙ λ i. lowest (lowest (ea i) (eb i)) (lowest (ed i) (ee i))

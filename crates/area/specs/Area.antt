@@ -2,7 +2,7 @@
 use Rattle.std.specs.Prelude.{ℕ, zero, suc, ◌*◌, ℤ, pos, ◌+ℤ◌, ◌-ℤ◌, true, Float}
 use Rattle.std.specs.Float.{binary32}
 use Rattle.std.specs.Float.Ieee.{add, sub, mul, of_bits}
-use Rattle.refusal.specs.Refusal.{lowest, code_refusal, answered}
+use Rattle.refusal.specs.Refusal.{lowest, code_refusal}
 use Rattle.refusal.specs.Limits.{last_pivot}
 use Rattle.floats.specs.Count.{half}
 use Rattle.emath.specs.declared.Pos2.{Pos2}
@@ -15,9 +15,6 @@ use Rattle.grid.specs.Grid.{pivot_pos_refusal, size_refusal}
 use Rattle.area.specs.declared.PivotPos.{PivotPos}
 use Rattle.area.specs.declared.Size.{Size}
 use Rattle.area.specs.declared.AreaState.{AreaState}
-use Rattle.area.specs.declared.PosAnswer.{PosAnswer}
-use Rattle.area.specs.declared.RectAnswer.{RectAnswer}
-use Rattle.area.specs.declared.StateAnswer.{StateAnswer}
 
 abbrev pub nil : Float
 nil = of_bits binary32 0
@@ -82,13 +79,3 @@ size_at (Size.Of x y) = size_refusal x y
 
 unfoldable pub state_refusal : AreaState → ℕ
 state_refusal s = lowest (lowest (code_refusal s.pivot.x last_pivot) (code_refusal s.pivot.y last_pivot)) (lowest (pivot_pos_at s.pivot_pos) (size_at s.size))
-
--- ---- the answers: the refusal where there is one, else the value
-abbrev pub pos_answer : ℕ → Pos2 → PosAnswer
-pos_answer = answered PosAnswer.Is PosAnswer.Refused
-
-abbrev pub rect_answer : ℕ → Rect → RectAnswer
-rect_answer = answered RectAnswer.Is RectAnswer.Refused
-
-abbrev pub state_answer : ℕ → AreaState → StateAnswer
-state_answer = answered StateAnswer.Is StateAnswer.Refused

@@ -2,18 +2,18 @@
 #![tactic(auto)]
 
 ghost use Rattle.std.specs.Prelude.{◌≡◌, ℕ, ℤ, pos};
-ghost use Rattle.refusal.specs.Refusal.{none, lowest};
+ghost use Rattle.refusal.specs.Refusal.{none, number_in, lowest, answer};
 ghost use Rattle.floats.specs.Count.{at, count_of};
 ghost use Rattle.grid.specs.Grid.{pos_refusal};
 ghost use Rattle.area.specs.declared.AreaState.{AreaState};
 ghost use Rattle.area.specs.Area.{low_edge, high_edge};
 ghost use Rattle.area.specs.Area.{position_of, extent_of, to_factor, default_state, left_top, with_left_top, rect_of};
-ghost use Rattle.area.specs.Area.{pivot_pos_at, size_at, state_refusal, pos_answer, rect_answer, state_answer};
+ghost use Rattle.area.specs.Area.{pivot_pos_at, size_at, state_refusal};
 
 use emath::{Pos2, Rect, Vec2};
-use refusal::{LAST_PIVOT, NONE};
+use refusal::{LAST_PIVOT, Refusal};
 
-// Option<Pos2>: where the pivot was put.
+// Option<Pos2>: where the pivot was put. An enum of its own, a case of two floats: a form that document 01 names.
 #[derive(Clone, Copy)]
 pub enum PivotPos {
     Absent,
@@ -27,7 +27,7 @@ pub enum Size {
     Of(f32, f32),
 }
 
-// Where on the area the pivot is, a code for each axis: 0 low, 1 middle, 2 high.
+// Where on the area the pivot is, a code for each axis: 0 low, 1 middle, 2 high. Any code is legal: document 01 refuses those past 2.
 #[derive(Clone, Copy)]
 pub struct Align2 {
     pub x: u64,
@@ -42,30 +42,12 @@ pub struct AreaState {
     pub interactable: bool,
 }
 
-#[derive(Clone, Copy)]
-pub enum PosAnswer {
-    Is(Pos2),
-    Refused(u64),
-}
-
-#[derive(Clone, Copy)]
-pub enum RectAnswer {
-    Is(Rect),
-    Refused(u64),
-}
-
-#[derive(Clone, Copy)]
-pub enum StateAnswer {
-    Is(AreaState),
-    Refused(u64),
-}
-
 fn position(p: PivotPos) -> Pos2
     ensures { result ≡ position_of p }
 {
     match p {
         PivotPos::Absent => Pos2 { x: 0.0, y: 0.0 },
-        PivotPos::At(x, y) => Pos2 { x: x, y: y },
+        PivotPos::At(x, y) => Pos2 { x, y },
     }
 }
 
@@ -74,7 +56,7 @@ fn extent(s: Size) -> Vec2
 {
     match s {
         Size::Absent => Vec2 { x: 0.0, y: 0.0 },
-        Size::Of(x, y) => Vec2 { x: x, y: y },
+        Size::Of(x, y) => Vec2 { x, y },
     }
 }
 
@@ -88,20 +70,20 @@ fn to_factor(code: u64) -> f32
     }
 }
 
-fn pivot_pos_refusal(p: PivotPos) -> u64
-    ensures { result ≡ pivot_pos_at p }
+fn check_pivot_pos(p: PivotPos) -> Result<(), Refusal>
+    ensures { number_in result ≡ pivot_pos_at p }
 {
     match p {
-        PivotPos::Absent => NONE,
+        PivotPos::Absent => Ok(()),
         PivotPos::At(x, y) => grid::pivot_pos(x, y),
     }
 }
 
-fn size_refusal(s: Size) -> u64
-    ensures { result ≡ size_at s }
+fn check_size(s: Size) -> Result<(), Refusal>
+    ensures { number_in result ≡ size_at s }
 {
     match s {
-        Size::Absent => NONE,
+        Size::Absent => Ok(()),
         Size::Of(x, y) => grid::size(x, y),
     }
 }
@@ -118,30 +100,31 @@ impl AreaState {
         }
     }
 
+    #[tactic(auto, unfolding(crate::specs::Area::state_refusal))]
+    pub fn check(self) -> Result<(), Refusal>
+        ensures { number_in result ≡ state_refusal self }
+    {
+        let codes = refusal::both(
+            refusal::check_code(self.pivot.x, LAST_PIVOT),
+            refusal::check_code(self.pivot.y, LAST_PIVOT),
+        );
+        let numbers = refusal::both(check_pivot_pos(self.pivot_pos), check_size(self.size));
+        refusal::both(codes, numbers)
+    }
+
     // By what number a call with this state is refused, 0 if it is taken.
     pub fn refusal(self) -> u64
         ensures { result ≡ state_refusal self }
     {
-        let pivot_pos = self.pivot_pos;
-        let size = self.size;
-        let codes = refusal::lowest(
-            refusal::code_refusal(self.pivot.x, LAST_PIVOT),
-            refusal::code_refusal(self.pivot.y, LAST_PIVOT),
-        );
-        refusal::lowest(
-            codes,
-            refusal::lowest(pivot_pos_refusal(pivot_pos), size_refusal(size)),
-        )
+        refusal::number(self.check())
     }
 
     // left_top_pos of any state, on the grid or not: for callers that hold a stored state.
     pub fn left_top_unchecked(self) -> Pos2
         ensures { result ≡ left_top self }
     {
-        let pivot_pos = self.pivot_pos;
-        let size = self.size;
-        let p = position(pivot_pos);
-        let s = extent(size);
+        let p = position(self.pivot_pos);
+        let s = extent(self.size);
         let corner = Pos2 {
             x: p.x - to_factor(self.pivot.x) * s.x,
             y: p.y - to_factor(self.pivot.y) * s.y,
@@ -153,55 +136,40 @@ impl AreaState {
     pub fn rect_unchecked(self) -> Rect
         ensures { result ≡ rect_of self }
     {
-        let size = self.size;
-        let whole = Rect::from_min_size(self.left_top_unchecked(), extent(size));
-        whole.round_ui()
+        Rect::from_min_size(self.left_top_unchecked(), extent(self.size)).round_ui()
     }
 
-    pub fn left_top_pos(self) -> PosAnswer
-        ensures { result ≡ pos_answer (state_refusal self) (left_top self) }
+    pub fn left_top_pos(self) -> Result<Pos2, Refusal>
+        ensures { result ≡ answer (state_refusal self) (left_top self) }
     {
-        let n = self.refusal();
-        if n == NONE {
-            return PosAnswer::Is(self.left_top_unchecked());
-        }
-        PosAnswer::Refused(n)
+        self.check()?;
+        Ok(self.left_top_unchecked())
     }
 
-    pub fn rect(self) -> RectAnswer
-        ensures { result ≡ rect_answer (state_refusal self) (rect_of self) }
+    pub fn rect(self) -> Result<Rect, Refusal>
+        ensures { result ≡ answer (state_refusal self) (rect_of self) }
     {
-        let n = self.refusal();
-        if n == NONE {
-            return RectAnswer::Is(self.rect_unchecked());
-        }
-        RectAnswer::Refused(n)
+        self.check()?;
+        Ok(self.rect_unchecked())
     }
 
     // The position is a corner.
-    pub fn set_left_top_pos(self, pos: Pos2) -> StateAnswer
-        ensures { result ≡ state_answer (lowest (state_refusal self) (pos_refusal pos)) (with_left_top self pos) }
+    pub fn set_left_top_pos(self, pos: Pos2) -> Result<AreaState, Refusal>
+        ensures { result ≡ answer (lowest (state_refusal self) (pos_refusal pos)) (with_left_top self pos) }
     {
-        let n = refusal::lowest(self.refusal(), grid::pos(pos));
-        if n == NONE {
-            return StateAnswer::Is(self.with_left_top(pos));
-        }
-        StateAnswer::Refused(n)
+        refusal::both(self.check(), grid::pos(pos))?;
+        Ok(self.with_left_top(pos))
     }
 
     fn with_left_top(self, pos: Pos2) -> AreaState
         ensures { result ≡ with_left_top self pos }
     {
-        let size = self.size;
-        let pivot = self.pivot;
-        let s = extent(size);
+        let s = extent(self.size);
         let x = pos.x + to_factor(self.pivot.x) * s.x;
         let y = pos.y + to_factor(self.pivot.y) * s.y;
         AreaState {
             pivot_pos: PivotPos::At(x, y),
-            pivot: pivot,
-            size: size,
-            interactable: self.interactable,
+            ..self
         }
     }
 }

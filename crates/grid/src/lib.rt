@@ -5,12 +5,12 @@
 ghost use Rattle.std.specs.Prelude.{◌≡◌, ℕ, ◌*◌, ◌≤◌, ℤ, pos, nat_abs, Float};
 ghost use Rattle.std.specs.Float.{binary32};
 ghost use Rattle.std.specs.Float.Ieee.{of_bits, add, sub, eq};
-ghost use Rattle.refusal.specs.Refusal.{none};
+ghost use Rattle.refusal.specs.Refusal.{none, number_in};
 ghost use Rattle.floats.specs.Count.{at, count_of};
 ghost use Rattle.grid.specs.Grid.{magnitude_of, within, corner_refusal, pivot_refusal, side_refusal, pos_refusal, pivot_pos_refusal, size_refusal, crossed, rect_refusal, axis_taken};
 
 use emath::{Pos2, Rect};
-use refusal::{NONE, OFF_GRID, REVERSED};
+use refusal::Refusal;
 
 // x without its sign; -0.0 is left as it is.
 pub fn magnitude(x: f32) -> f32
@@ -27,80 +27,77 @@ fn is_whole(y: f32) -> bool
 }
 
 // One coordinate of a corner: a multiple of 1/32 within ±16,384.
-pub fn corner(x: f32) -> u64
-    ensures { result ≡ corner_refusal x }
+pub fn corner(x: f32) -> Result<(), Refusal>
+    ensures { number_in result ≡ corner_refusal x }
 {
     let size = magnitude(x);
     if size <= 16384.0 {
         if is_whole(size * 32.0) {
-            return NONE;
+            return Ok(());
         }
     }
-    OFF_GRID
+    Err(Refusal::OffGrid)
 }
 
 // One coordinate of a pivot position: a multiple of 1/64 within ±32,768.
-fn pivot(x: f32) -> u64
-    ensures { result ≡ pivot_refusal x }
+fn pivot(x: f32) -> Result<(), Refusal>
+    ensures { number_in result ≡ pivot_refusal x }
 {
     let size = magnitude(x);
     if size <= 32768.0 {
         if is_whole(size * 64.0) {
-            return NONE;
+            return Ok(());
         }
     }
-    OFF_GRID
+    Err(Refusal::OffGrid)
 }
 
 // A width or a height: a multiple of 1/32 from 0 to 16,384. From 2^18 on every f32 is a multiple of 1/32.
-fn side(x: f32) -> u64
-    ensures { result ≡ side_refusal x }
+fn side(x: f32) -> Result<(), Refusal>
+    ensures { number_in result ≡ side_refusal x }
 {
     if x < 0.0 {
         let size = -x;
         if size <= 262144.0 {
             if is_whole(size * 32.0) {
-                return REVERSED;
+                return Err(Refusal::Reversed);
             }
-            return OFF_GRID;
+            return Err(Refusal::OffGrid);
         }
         if size < f32::from_bits(0x7f80_0000) {
-            return REVERSED;
+            return Err(Refusal::Reversed);
         }
-        return OFF_GRID;
+        return Err(Refusal::OffGrid);
     }
     corner(x)
 }
 
-pub fn pos(p: Pos2) -> u64
-    ensures { result ≡ pos_refusal p }
+pub fn pos(p: Pos2) -> Result<(), Refusal>
+    ensures { number_in result ≡ pos_refusal p }
 {
-    refusal::lowest(corner(p.x), corner(p.y))
+    refusal::both(corner(p.x), corner(p.y))
 }
 
-pub fn pivot_pos(x: f32, y: f32) -> u64
-    ensures { result ≡ pivot_pos_refusal x y }
+pub fn pivot_pos(x: f32, y: f32) -> Result<(), Refusal>
+    ensures { number_in result ≡ pivot_pos_refusal x y }
 {
-    refusal::lowest(pivot(x), pivot(y))
+    refusal::both(pivot(x), pivot(y))
 }
 
-pub fn size(x: f32, y: f32) -> u64
-    ensures { result ≡ size_refusal x y }
+pub fn size(x: f32, y: f32) -> Result<(), Refusal>
+    ensures { number_in result ≡ size_refusal x y }
 {
-    refusal::lowest(side(x), side(y))
+    refusal::both(side(x), side(y))
 }
 
 // A high corner below its low one.
-fn crossed(r: Rect) -> u64
-    ensures { result ≡ crossed r }
+fn crossed(r: Rect) -> Result<(), Refusal>
+    ensures { number_in result ≡ crossed r }
 {
-    if r.max.x < r.min.x {
-        return REVERSED;
+    if r.max.x < r.min.x || r.max.y < r.min.y {
+        return Err(Refusal::Reversed);
     }
-    if r.max.y < r.min.y {
-        return REVERSED;
-    }
-    NONE
+    Ok(())
 }
 
 // Whether x, within ±16,384, is a multiple of 1/32: the sum lies where f32 has steps of 1/32.
@@ -126,17 +123,13 @@ fn axis(low: f32, high: f32) -> bool
     false
 }
 
-pub fn rect(r: Rect) -> u64
-    ensures { result ≡ rect_refusal r }
+pub fn rect(r: Rect) -> Result<(), Refusal>
+    ensures { number_in result ≡ rect_refusal r }
 {
-    let min = r.min;
-    let max = r.max;
-    if axis(min.x, max.x) {
-        if axis(min.y, max.y) {
-            return NONE;
-        }
+    if axis(r.min.x, r.max.x) && axis(r.min.y, r.max.y) {
+        return Ok(());
     }
-    refusal::lowest(refusal::lowest(pos(min), pos(max)), crossed(r))
+    refusal::both(refusal::both(pos(r.min), pos(r.max)), crossed(r))
 }
 
 // A corner or a pivot position is taken exactly if it is a whole number of steps within its bound. There is nothing to run.

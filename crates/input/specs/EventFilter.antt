@@ -1,11 +1,8 @@
 -- EventFilter of data/input/event_filter.rs (lines 11 to 63 of the Rust). Definitions only.
 use Rattle.std.specs.Prelude.{ℕ, Bool, true, false, ◌||◌, cond, eqb}
-use Rattle.refusal.specs.Refusal.{answered}
 use Rattle.input.specs.declared.Event.{Event}
 use Rattle.input.specs.declared.Event.TheVariants.{Key, AccessKitFocus, Pointer, Zoom, Other}
 use Rattle.input.specs.declared.EventFilter.{EventFilter}
-use Rattle.input.specs.declared.Matched.{Matched}
-use Rattle.input.specs.declared.Matched.TheVariants.{Is, Refused}
 use Rattle.input.specs.Key.{arrow_down, arrow_left, arrow_right, arrow_up, escape, tab}
 
 -- EventFilter::default()
@@ -26,7 +23,3 @@ matches_of f (AccessKitFocus id) = true
 matches_of f (Pointer x y) = true
 matches_of f (Zoom factor) = true
 matches_of f Other = true
-
--- the refusal where there is one, else whether the filter matches
-abbrev pub matched_answer : ℕ → Bool → Matched
-matched_answer = answered Is Refused

@@ -1,16 +1,17 @@
 // The panel's input: egui's data/input (events, modifiers, the event filter), its key numbers, and what a key does to the focus.
-// `matches` and `Event::refusal` refuse codes past the last of their kind; the functions on numbers below them are leaves, total for any number.
+// `matches` and `Event::check` refuse codes past the last of their kind; the functions on numbers below them are leaves, total for any number.
 #![tactic(auto)]
 
 ghost use Rattle.std.specs.Prelude.{◌≡◌, cond};
+ghost use Rattle.refusal.specs.Refusal.{number_in, answer};
 ghost use Rattle.input.specs.Event.{event_refusal};
-ghost use Rattle.input.specs.EventFilter.{default_filter, matches_key, matches_of, matched_answer};
+ghost use Rattle.input.specs.EventFilter.{default_filter, matches_key, matches_of};
 ghost use Rattle.input.specs.FocusDirection.{previous, next, is_cardinal, navigation_of};
 ghost use Rattle.input.specs.Modifiers.{any_of, shift_only};
 
-use refusal::{LAST_KEY, LAST_MODIFIERS, NONE};
+use refusal::{LAST_KEY, LAST_MODIFIERS, Refusal};
 
-// FocusDirection, as declared in memory/mod.rs.
+// FocusDirection, as declared in memory/mod.rs. A code, as all kinds are in document 01, which says what a code past the last is refused by.
 pub const UP: u64 = 0;
 
 pub const RIGHT: u64 = 1;
@@ -48,12 +49,6 @@ pub struct EventFilter {
     pub escape: bool,
 }
 
-#[derive(Clone, Copy)]
-pub enum Matched {
-    Is(bool),
-    Refused(u64),
-}
-
 // What a pressed key does to the focus.
 #[derive(Clone, Copy)]
 pub enum Navigation {
@@ -70,32 +65,19 @@ pub fn any(modifiers: u64) -> bool
 }
 
 // Modifiers::shift_only.
+#[tactic(auto, unfolding(crate::specs::Modifiers::shift_only))]
 pub fn shift_only(modifiers: u64) -> bool
     ensures { result ≡ shift_only modifiers }
 {
-    if modifiers / 4 % 2 == 1 {
-        if modifiers % 2 == 1 {
-            return false;
-        }
-        if modifiers / 16 % 2 == 1 {
-            return false;
-        }
-        return true;
-    }
-    false
+    modifiers / 4 % 2 == 1 && modifiers % 2 != 1 && modifiers / 16 % 2 != 1
 }
 
 // FocusDirection::is_cardinal: an arrow's direction.
+#[tactic(auto, unfolding(crate::specs::FocusDirection::is_cardinal))]
 pub fn is_cardinal(direction: u64) -> bool
     ensures { result ≡ is_cardinal direction }
 {
-    match direction {
-        0 => true,
-        1 => true,
-        2 => true,
-        3 => true,
-        _ => false,
-    }
+    matches!(direction, UP | RIGHT | DOWN | LEFT)
 }
 
 // A key that counts only with every modifier off.
@@ -113,13 +95,13 @@ fn tab(modifiers: u64) -> Navigation
     ensures { result ≡ cond (any_of modifiers) (cond (shift_only modifiers) (Navigation.Direction previous) Navigation.Unchanged)
         (Navigation.Direction next) }
 {
-    if any(modifiers) {
-        if shift_only(modifiers) {
-            return Navigation::Direction(PREVIOUS);
-        }
-        return Navigation::Unchanged;
+    if !any(modifiers) {
+        Navigation::Direction(NEXT)
+    } else if shift_only(modifiers) {
+        Navigation::Direction(PREVIOUS)
+    } else {
+        Navigation::Unchanged
     }
-    Navigation::Direction(NEXT)
 }
 
 // The match on a pressed key in Focus::begin_pass.
@@ -139,25 +121,24 @@ pub fn navigate(key: u64, modifiers: u64) -> Navigation
 }
 
 impl Event {
+    pub fn check(self) -> Result<(), Refusal>
+        ensures { number_in result ≡ event_refusal self }
+    {
+        match self {
+            Event::Key { key, modifiers, .. } => refusal::both(
+                refusal::check_code(key, LAST_KEY),
+                refusal::check_code(modifiers, LAST_MODIFIERS),
+            ),
+            Event::AccessKitFocus(id) => refusal::check_id(id),
+            Event::Pointer(..) | Event::Zoom(_) | Event::Other => Ok(()),
+        }
+    }
+
     // By what number a call with this event is refused, 0 if it is taken.
     pub fn refusal(self) -> u64
         ensures { result ≡ event_refusal self }
     {
-        match self {
-            Event::Key {
-                key,
-                pressed: _,
-                repeat: _,
-                modifiers,
-            } => refusal::lowest(
-                refusal::code_refusal(key, LAST_KEY),
-                refusal::code_refusal(modifiers, LAST_MODIFIERS),
-            ),
-            Event::AccessKitFocus(id) => refusal::id_refusal(id),
-            Event::Pointer(_, _) => NONE,
-            Event::Zoom(_) => NONE,
-            Event::Other => NONE,
-        }
+        refusal::number(self.check())
     }
 }
 
@@ -193,26 +174,15 @@ impl EventFilter {
         ensures { result ≡ matches_of self event }
     {
         match event {
-            Event::Key {
-                key,
-                pressed: _,
-                repeat: _,
-                modifiers: _,
-            } => self.matches_key(key),
-            Event::AccessKitFocus(_) => true,
-            Event::Pointer(_, _) => true,
-            Event::Zoom(_) => true,
-            Event::Other => true,
+            Event::Key { key, .. } => self.matches_key(key),
+            Event::AccessKitFocus(_) | Event::Pointer(..) | Event::Zoom(_) | Event::Other => true,
         }
     }
 
-    pub fn matches(self, event: Event) -> Matched
-        ensures { result ≡ matched_answer (event_refusal event) (matches_of self event) }
+    pub fn matches(self, event: Event) -> Result<bool, Refusal>
+        ensures { result ≡ answer (event_refusal event) (matches_of self event) }
     {
-        let n = event.refusal();
-        if n == NONE {
-            return Matched::Is(self.matches_any(event));
-        }
-        Matched::Refused(n)
+        event.check()?;
+        Ok(self.matches_any(event))
     }
 }

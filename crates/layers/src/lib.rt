@@ -2,11 +2,12 @@
 #![tactic(auto)]
 
 ghost use Rattle.std.specs.Prelude.{◌≡◌};
+ghost use Rattle.refusal.specs.Refusal.{number_in};
 ghost use Rattle.layers.specs.Layers.{is_layer, layer_refusal};
 
-use refusal::LAST_ORDER;
+use refusal::{LAST_ORDER, Refusal};
 
-#[derive(Clone, Copy)]
+#[derive(Clone, Copy, Debug, PartialEq, Eq)]
 #[repr(C)]
 pub struct LayerId {
     pub order: u64,
@@ -14,22 +15,28 @@ pub struct LayerId {
 }
 
 impl LayerId {
-    pub fn refusal(self) -> u64
-        ensures { result ≡ layer_refusal self }
+    #[tactic(auto, unfolding(crate::specs::Layers::layer_refusal))]
+    pub fn check(self) -> Result<(), Refusal>
+        ensures { number_in result ≡ layer_refusal self }
     {
-        refusal::lowest(
-            refusal::id_refusal(self.id),
-            refusal::code_refusal(self.order, LAST_ORDER),
+        refusal::both(
+            refusal::check_id(self.id),
+            refusal::check_code(self.order, LAST_ORDER),
         )
     }
 
+    // The number of its refusal, 0 if it is taken.
+    pub fn refusal(self) -> u64
+        ensures { result ≡ layer_refusal self }
+    {
+        refusal::number(self.check())
+    }
+
     // Whether two layers are one.
+    #[tactic(auto, unfolding(crate::specs::Layers::is_layer))]
     pub fn is(self, other: LayerId) -> bool
         ensures { result ≡ is_layer self other }
     {
-        if self.order == other.order {
-            return self.id == other.id;
-        }
-        false
+        self == other
     }
 }

@@ -2,7 +2,10 @@
 use mathlib.Core.Path.{◌≡◌, refl, sym, ap, ◌∙◌}
 use Prim.Native.Nat.{ℕ, zero, suc, ◌≤◌, ◌<◌}
 use native.Mathlib.Omega.{arith}
-use Rattle.refusal.specs.Refusal.{lowest, answered}
+use Rattle.refusal.specs.Refusal.{number_of, number_in, numbered, lowest, answer, answered}
+use Rattle.refusal.specs.declared.Refusal.{Refusal}
+use Rattle.std.specs.Prelude.{Result, Ok, Err, is_err}
+use mathlib.Core.Bool.{true, false, true≢false}
 
 pub none_left : (a b : ℕ) → a ≡ 0 → b ≡ lowest a b
 unfolding lowest
@@ -31,6 +34,47 @@ unfolding lowest
 both_none zero b e = (refl, e)
 both_none (suc a) zero e = omega arith
 both_none (suc a) (suc b) e = omega arith
+
+-- ---- the refusals of the code
+pub positive : (r : Refusal) → 0 < number_of r
+positive r = grind arith
+
+module _ (r s : Refusal) where
+  pub second_lower : number_of s < number_of r → number_of s ≡ lowest (number_of r) (number_of s)
+  second_lower h = right_lower _ _ (λ e. let p = positive s in omega arith) (omega arith)
+
+  pub first_lower : number_of r ≤ number_of s → number_of r ≡ lowest (number_of r) (number_of s)
+  unfolding lowest
+  first_lower h = go (number_of r) (number_of s) (positive r) h
+    where
+      go : (a b : ℕ) → 0 < a → a ≤ b → a ≡ lowest a b
+      go zero b p k = absurd (omega arith)
+      go (suc a) zero p k = absurd (omega arith)
+      go (suc a) (suc b) p k = omega arith
+
+pub numbered_back : (r : Refusal) → numbered (number_of r) ≡ r
+numbered_back r = grind arith
+
+-- ---- a check that is only asked whether it refuses
+pub no_error : (checked : Result Unit Refusal) → is_err checked ≡ false → number_in checked ≡ 0
+no_error (Ok u) h = refl
+no_error (Err r) h = absurd (true≢false h)
+
+pub an_error : (checked : Result Unit Refusal) → is_err checked ≡ true → number_in checked ≡ 0 → ⊥
+an_error (Ok u) h e = true≢false (sym h)
+an_error (Err r) h e = let p = positive r in omega arith
+
+-- ---- an answer after a check
+module _ {A : Type 0} where
+  answer_of : (r : Refusal) (a : A) → ◌≡◌ {A = Result A Refusal} (Err r) (answer (number_of r) a)
+  answer_of r a = grind arith
+
+  module _ (checked : Result Unit Refusal) (n : ℕ) (e : number_in checked ≡ n) where
+    pub refused_answer : (r : Refusal) → checked ≡ Err r → (a : A) → ◌≡◌ {A = Result A Refusal} (Err r) (answer n a)
+    refused_answer r h a = rw (rw h at e) at (answer_of r a)
+
+    pub given_answer : (u : Unit) → checked ≡ Ok u → (a b : A) → a ≡ b → ◌≡◌ {A = Result A Refusal} (Ok a) (answer n b)
+    given_answer u h a b p = rw (← rw h at e, p) refl
 
 -- ---- an answer whose refusal is n, which a call gave
 module _ {A R : Type 0} (is : A → R) (no : ℕ → R) (n r : ℕ) (e : n ≡ r) where

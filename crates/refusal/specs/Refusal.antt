@@ -1,5 +1,7 @@
 -- What a refused call says, from document 01, "What a refused call says". Definitions only.
-use Rattle.std.specs.Prelude.{ℕ, zero, suc, min, cond, eqb, ltb}
+use Rattle.std.specs.Prelude.{ℕ, zero, suc, min, cond, eqb, ltb, Result, Ok, Err}
+use Rattle.refusal.specs.declared.Refusal.{Refusal}
+use Rattle.refusal.specs.declared.Refusal.TheVariants.{ZeroId, Code, OffGrid, Reversed, BadList, Full, OtherLayer, BadPair, BadFamily}
 
 -- no refusal: the call is accepted
 abbrev pub none : ℕ
@@ -41,6 +43,23 @@ bad_pair = 8
 abbrev pub bad_family : ℕ
 bad_family = 9
 
+-- the number of each refusal of the code
+abbrev pub number_of : Refusal → ℕ
+number_of ZeroId = zero_id
+number_of Code = bad_code
+number_of OffGrid = off_grid
+number_of Reversed = reversed
+number_of BadList = bad_list
+number_of Full = full
+number_of OtherLayer = other_layer
+number_of BadPair = bad_pair
+number_of BadFamily = bad_family
+
+-- the number of what a check or a call answers: none where it is accepted
+abbrev pub number_in : {A : Type 0} → Result A Refusal → ℕ
+number_in (Ok a) = none
+number_in (Err r) = number_of r
+
 -- of two refusals the lower, and where only one applies, that one
 unfoldable pub lowest : ℕ → ℕ → ℕ
 lowest zero b = b
@@ -57,6 +76,16 @@ code_refusal code last = cond (ltb last code) bad_code none
 abbrev pub answered : {A R : Type 0} → (A → R) → (ℕ → R) → ℕ → A → R
 answered is refused zero a = is a
 answered is refused (suc n) a = refused (suc n)
+
+-- the refusal of a number
+abbrev pub numbered : ℕ → Refusal
+numbered n =
+    cond (eqb n zero_id) ZeroId (cond (eqb n bad_code) Code (cond (eqb n off_grid) OffGrid (cond (eqb n reversed) Reversed
+    (cond (eqb n bad_list) BadList (cond (eqb n full) Full (cond (eqb n other_layer) OtherLayer (cond (eqb n bad_pair) BadPair BadFamily)))))))
+
+-- a call that is refused by a number, or answers a value
+abbrev pub answer : {A : Type 0} → ℕ → A → Result A Refusal
+answer n a = answered Ok (λ k. Err (numbered k)) n a
 
 -- what a call leaves: where it is refused what was there before
 abbrev pub kept : {A : Type 0} → ℕ → A → A → A

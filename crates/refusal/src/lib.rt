@@ -1,8 +1,90 @@
-// The refusals of document 01 and the limits behind them, each number under one name (those that code uses so far), and how refusals join.
+// The refusals of document 01 and the limits behind them, each under one name (those that code uses so far), and how refusals join.
 #![tactic(auto)]
 
 ghost use Rattle.std.specs.Prelude.{◌≡◌};
-ghost use Rattle.refusal.specs.Refusal.{lowest, id_refusal, code_refusal};
+ghost use Rattle.refusal.specs.Refusal.{number_of, number_in, lowest, id_refusal, code_refusal};
+
+// Why a call is refused: an id is 0, a code passes the last of its kind, a number is off its grid, corners or a size are the wrong way round, a list
+// is too long or names an id twice, a table has no place left, a widget's record is of another layer than the call, parent and child cannot be a pair, a pair does not fit the other pairs.
+#[derive(Clone, Copy, Debug, PartialEq, Eq)]
+pub enum Refusal {
+    ZeroId,
+    Code,
+    OffGrid,
+    Reversed,
+    BadList,
+    Full,
+    OtherLayer,
+    BadPair,
+    BadFamily,
+}
+
+impl From<Refusal> for u64 {
+    ghost from_gives = { λ r n. n ≡ number_of r };
+
+    // The number of document 01.
+    fn from(r: Refusal) -> u64 {
+        match r {
+            Refusal::ZeroId => 1,
+            Refusal::Code => 2,
+            Refusal::OffGrid => 3,
+            Refusal::Reversed => 4,
+            Refusal::BadList => 5,
+            Refusal::Full => 6,
+            Refusal::OtherLayer => 7,
+            Refusal::BadPair => 8,
+            Refusal::BadFamily => 9,
+        }
+    }
+}
+
+// The number of what a check found, for programs in other languages: 0 where the call is taken.
+pub fn number(checked: Result<(), Refusal>) -> u64
+    ensures { result ≡ number_in checked }
+{
+    match checked {
+        Ok(()) => NONE,
+        Err(r) => u64::from(r),
+    }
+}
+
+fn lower(r: Refusal, s: Refusal) -> Refusal
+    ensures { number_of result ≡ lowest (number_of r) (number_of s) }
+{
+    if u64::from(s) < u64::from(r) { s } else { r }
+}
+
+// Both of two checks: of two refusals the lower.
+pub fn both(a: Result<(), Refusal>, b: Result<(), Refusal>) -> Result<(), Refusal>
+    ensures { number_in result ≡ lowest (number_in a) (number_in b) }
+{
+    match (a, b) {
+        (Err(r), Err(s)) => Err(lower(r, s)),
+        (Err(r), Ok(())) => Err(r),
+        (Ok(()), b) => b,
+    }
+}
+
+pub fn check_id(id: u64) -> Result<(), Refusal>
+    ensures { number_in result ≡ id_refusal id }
+{
+    if id == 0 {
+        Err(Refusal::ZeroId)
+    } else {
+        Ok(())
+    }
+}
+
+// A code of a kind whose last one is `last`.
+pub fn check_code(code: u64, last: u64) -> Result<(), Refusal>
+    ensures { number_in result ≡ code_refusal code last }
+{
+    if last < code {
+        Err(Refusal::Code)
+    } else {
+        Ok(())
+    }
+}
 
 // A call is accepted, an id is 0, a code passes the last of its kind, a number is off its grid, corners or a size are the wrong way round, a
 // list is too long or names an id twice, a table has no place left, a widget's record is of another layer than the call, parent and child cannot be a pair, a pair does not fit the other pairs.
@@ -66,12 +148,12 @@ pub fn lowest(a: u64, b: u64) -> u64
 pub fn id_refusal(id: u64) -> u64
     ensures { result ≡ id_refusal id }
 {
-    if id == 0 { ZERO_ID } else { NONE }
+    number(check_id(id))
 }
 
 // A code of a kind whose last one is `last`.
 pub fn code_refusal(code: u64, last: u64) -> u64
     ensures { result ≡ code_refusal code last }
 {
-    if last < code { CODE } else { NONE }
+    number(check_code(code, last))
 }

@@ -10,7 +10,6 @@ ghost use Rattle.vec2.specs.Length.{whole_nearest, nearest_of, length_of};
 ghost use Rattle.vec2.specs.Nearest.{Nearest};
 
 use emath::Vec2;
-use refusal::NONE;
 
 // x in 64ths, without its sign.
 fn steps(x: f32) -> u64
@@ -25,10 +24,7 @@ fn whole_nearest(n: u64) -> u64
     ensures { result ≡ whole_nearest n }
 {
     let r = root::root(n);
-    if n - r * r <= r {
-        return r;
-    }
-    r + 1
+    if n - r * r <= r { r } else { r + 1 }
 }
 
 // The f32 nearest to the square root of n, divided by 64: a power of four brings an n above 0 to 47 or 48 binary digits, so that its
@@ -46,7 +42,7 @@ fn nearest(n: u64) -> f32
 pub fn length(v: Vec2) -> f32
     ensures { result ≡ length_of v }
 {
-    if grid::pivot_pos(v.x, v.y) != NONE {
+    if grid::pivot_pos(v.x, v.y).is_err() {
         return 0.0 / 0.0;
     }
     let x = steps(v.x);

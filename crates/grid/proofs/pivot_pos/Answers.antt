@@ -2,4 +2,4 @@
 use Rattle.grid.proofs.pivot_pos.Goals as goal
 
 pub returns : goal.returns
-returns c = rw (c.lowest.ensures, c.pivot-2.ensures, c.pivot.ensures)
+returns c = rw (c.both.ensures, c.pivot-2.ensures, c.pivot.ensures)

@@ -2,4 +2,4 @@
 use Rattle.grid.proofs.pos.Goals as goal
 
 pub returns : goal.returns
-returns c = rw (c.lowest.ensures, c.corner-2.ensures, c.corner.ensures)
+returns c = rw (c.both.ensures, c.corner-2.ensures, c.corner.ensures)

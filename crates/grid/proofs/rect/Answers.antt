@@ -10,4 +10,4 @@ returns-then-axis-2 c =
 
 pub returns : goal.returns
 unfolding rect_refusal
-returns c = rw (c.lowest-2.ensures, c.crossed.ensures, c.lowest.ensures, c.pos-2.ensures, c.pos.ensures)
+returns c = rw (c.both-2.ensures, c.crossed.ensures, c.both.ensures, c.pos-2.ensures, c.pos.ensures)

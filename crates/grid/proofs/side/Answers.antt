@@ -28,6 +28,6 @@ pub returns : goal.returns
 unfolding of_bits
 returns c = c.corner.ensures ∙ other_side _ (subst T (sym c.well_formed.0.1) tt) c.if-x.false
 
-pub float_from_bits-t-7 : goal.float_from_bits-t-7
+pub float_from_bits-t-9 : goal.float_from_bits-t-9
 unfolding nan_bits
-float_from_bits-t-7 c = tt
+float_from_bits-t-9 c = tt

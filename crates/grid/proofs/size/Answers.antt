@@ -2,4 +2,4 @@
 use Rattle.grid.proofs.size.Goals as goal
 
 pub returns : goal.returns
-returns c = rw (c.lowest.ensures, c.side-2.ensures, c.side.ensures)
+returns c = rw (c.both.ensures, c.side-2.ensures, c.side.ensures)

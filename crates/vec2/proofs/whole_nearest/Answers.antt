@@ -12,6 +12,6 @@ returns-then-n-r c =
 pub overflow_add-result : goal.overflow_add-result
 overflow_add-result c = omega (arith, below_root _ _ (2 ^ 32) c.root-r.ensures.0.0 c.ranges.n.fits)
 
-pub returns : goal.returns
-returns c =
+pub returns-else-n-r : goal.returns-else-n-r
+returns-else-n-r c =
     sym (nearest_by c.args.n c.root-r.result c.ranges.n.fits c.root-r.ensures.0 ∙ ap (λ (t : Bool). cond t c.root-r.result (c.root-r.result + 1)) (lt-leb c.args.n (c.root-r.result * c.root-r.result + c.root-r.result) (omega arith)))

@@ -1,8 +1,0 @@
--- `input::plain` meets its contract. Assumes nothing.
-use Rattle.input.proofs.plain.Goals as goal
-
-pub returns-then-any : goal.returns-then-any
-returns-then-any c = rw (← c.any.ensures, c.if-any.true)
-
-pub returns-else-any : goal.returns-else-any
-returns-else-any c = rw (← c.any.ensures, c.if-any.false)
