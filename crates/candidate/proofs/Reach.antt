@@ -22,7 +22,7 @@ use Rattle.emath.specs.declared.Vec2.{Vec2}
 use Rattle.grid.specs.Grid.{magnitude_of, pivot_pos_refusal}
 use Rattle.vec2.specs.Length.{digits_up, nearest_of, length_of}
 use Rattle.vec2.proofs.Laws.{OnGrid, on_grid_lem, off_grid_lem, grid_or_not, rooted, nearest_is, length_value}
-use Rattle.candidate.specs.declared.Judged.TheVariants.{Outside, Score}
+use Rattle.std.specs.Prelude.{Option, None, Some}
 use Rattle.candidate.specs.Candidate as spec
 use Rattle.candidate.specs.Candidate.{along_of, acos_angle, cone_bound, is_in_search_cone, score_of, verdict, judge_of, is_farther}
 use Rattle.candidate.proofs.Bound.{bound, bound_is}
@@ -217,30 +217,30 @@ module _ (v : Vec2) (k : ℕ) (i : Inside v k) where
   near = λ j. not_far v.x (part_x v i.grid) j || not_far v.y (part_y v i.grid) j
 
 -- ---- the laws that the code and the search lean on
-scored : (t : Bool) (x s : Float) → verdict t x ≡ Score s → (t ≡ true) × (x ≡ s)
+scored : (t : Bool) (x s : Float) → verdict t x ≡ Some s → (t ≡ true) × (x ≡ s)
 scored true x s e = (refl, same e)
   where
-    same : Score x ≡ Score s → x ≡ s
+    same : Some x ≡ Some s → x ≡ s
     same e = cc
 scored false x s e = absurd (never e)
   where
-    never : Outside ≡ Score s → ⊥
+    never : None ≡ Some s → ⊥
     never e = let k : ◌≡◌ {A = ℕ} 0 1 = cc in omega arith
 
-taken : (v : Vec2) (k : ℕ) (s : Float) → judge_of v k ≡ Score s → (is_in_search_cone v k ≡ true) × (score_of v k ≡ s)
+taken : (v : Vec2) (k : ℕ) (s : Float) → judge_of v k ≡ Some s → (is_in_search_cone v k ≡ true) × (score_of v k ≡ s)
 unfolding judge_of
 taken v k s e = scored (is_in_search_cone v k) (score_of v k) s e
 
 -- a score is no NaN and not below zero
-pub scored_plain : (v : Vec2) (k : ℕ) (s : Float) → judge_of v k ≡ Score s → T (plain s)
+pub scored_plain : (v : Vec2) (k : ℕ) (s : Float) → judge_of v k ≡ Some s → T (plain s)
 scored_plain v k s e = let t = taken v k s e in subst (λ (x : Float). T (plain x)) t.1 (plain_score v k (inside v k t.0))
 
 -- and below infinity
-pub scored_finite : (v : Vec2) (k : ℕ) (s : Float) → judge_of v k ≡ Score s → lt s (inf false) ≡ true
+pub scored_finite : (v : Vec2) (k : ℕ) (s : Float) → judge_of v k ≡ Some s → lt s (inf false) ≡ true
 scored_finite v k s e = let t = taken v k s e in ap (λ (x : Float). lt x (inf false)) (sym t.1) ∙ finite_score v k (inside v k t.0)
 
 -- where a part of the difference is past a limit, so is the score
-pub farther_loses : (v : Vec2) (k : ℕ) (s limit : Float) → judge_of v k ≡ Score s → is_farther v limit ≡ true → lt limit s ≡ true
+pub farther_loses : (v : Vec2) (k : ℕ) (s limit : Float) → judge_of v k ≡ Some s → is_farther v limit ≡ true → lt limit s ≡ true
 farther_loses v k s limit e h = let t = taken v k s e in ap (lt limit) (sym t.1) ∙ far_score v k (inside v k t.0) limit h
 
 -- not in the cone unless something follows
@@ -251,16 +251,16 @@ not_inside v k h = go (is_in_search_cone v k) (inside v k)
     go true f = absurd (h (f refl))
     go false f = refl
 
-outside : (v : Vec2) (k : ℕ) → is_in_search_cone v k ≡ false → Outside ≡ judge_of v k
+outside : (v : Vec2) (k : ℕ) → is_in_search_cone v k ≡ false → None ≡ judge_of v k
 unfolding judge_of
 outside v k h = ap (λ (t : Bool). verdict t (score_of v k)) (sym h)
 
 -- ---- `judge`, return by return: a is the part ahead, l the length
 module _ (v : Vec2) (k : ℕ) (a : Float) (A : a ≡ along_of v k) where
-  pub not_ahead : le a spec.zero ≡ true → Outside ≡ judge_of v k
+  pub not_ahead : le a spec.zero ≡ true → None ≡ judge_of v k
   not_ahead h = outside v k (not_inside v k (λ i. true≢false (sym (ap (λ (x : Float). le x spec.zero) (sym A) ∙ h) ∙ above_zero (along_of v k) i.front.steps i.front.value i.front.some)))
 
-  pub aside : (t : Bool) → t ≡ is_farther v (mul binary32 (of_bits binary32 0x4000_0000) a) → t ≡ true → Outside ≡ judge_of v k
+  pub aside : (t : Bool) → t ≡ is_farther v (mul binary32 (of_bits binary32 0x4000_0000) a) → t ≡ true → None ≡ judge_of v k
   aside t T h = outside v k (not_inside v k (λ i. false≢true (sym (near v k i) ∙ ap (λ (x : Float). is_farther v (mul binary32 (of_bits binary32 0x4000_0000) x)) (sym A) ∙ sym T ∙ h)))
 
   module _ (h : le a spec.zero ≡ false) (l : Float) (L : l ≡ length_of v) where
@@ -270,13 +270,13 @@ module _ (v : Vec2) (k : ℕ) (a : Float) (A : a ≡ along_of v k) where
       | inr o ↦ no_cosine v k (off_grid_lem v o) ∙ sym (ap (div binary32 a) (L ∙ off_grid_lem v o) ∙ over_nan a)
     ]
 
-    pub in_cone_lem : le cone_bound (div binary32 a l) ≡ true → Score (div binary32 l (mul binary32 (div binary32 a l) (div binary32 a l))) ≡ judge_of v k
+    pub in_cone_lem : le cone_bound (div binary32 a l) ≡ true → Some (div binary32 l (mul binary32 (div binary32 a l) (div binary32 a l))) ≡ judge_of v k
     unfolding judge_of is_in_search_cone score_of
     in_cone_lem t =
-        (λ i. Score (div binary32 (L i) (mul binary32 (sym cosine_is i) (sym cosine_is i))))
+        (λ i. Some (div binary32 (L i) (mul binary32 (sym cosine_is i) (sym cosine_is i))))
         ∙ ap (λ (b : Bool). verdict b (score_of v k)) (sym (ap (le cone_bound) cosine_is ∙ t))
 
-    pub out_of_cone : le cone_bound (div binary32 a l) ≡ false → Outside ≡ judge_of v k
+    pub out_of_cone : le cone_bound (div binary32 a l) ≡ false → None ≡ judge_of v k
     out_of_cone t = outside v k (test t)
       where
         test : le cone_bound (div binary32 a l) ≡ false → is_in_search_cone v k ≡ false

@@ -12,8 +12,7 @@ use Rattle.grid.specs.Grid.{magnitude_of}
 use Rattle.input.specs.FocusDirection.{up, right, down, left}
 use Rattle.vec2.specs.Length.{length_of}
 use Rattle.vec2.specs.Vec2.{pick_vec, normalized_of, dot_of}
-use Rattle.candidate.specs.declared.Judged.{Judged}
-use Rattle.candidate.specs.declared.Judged.TheVariants.{Outside, Score}
+use Rattle.std.specs.Prelude.{Option, None, Some}
 
 abbrev pub zero : Float
 zero = of_bits binary32 0
@@ -53,12 +52,12 @@ is_in_search_cone v k = le cone_bound (acos_angle v k)
 unfoldable pub score_of : Vec2 → ℕ → Float
 score_of v k = div binary32 (length_of v) (mul binary32 (acos_angle v k) (acos_angle v k))
 
-abbrev pub verdict : Bool → Float → Judged
-verdict true score = Score score
-verdict false score = Outside
+abbrev pub verdict : Bool → Float → Option Float
+verdict true score = Some score
+verdict false score = None
 
 -- outside the cone, or the score
-unfoldable pub judge_of : Vec2 → ℕ → Judged
+unfoldable pub judge_of : Vec2 → ℕ → Option Float
 judge_of v k = verdict (is_in_search_cone v k) (score_of v k)
 
 -- ---- what the code looks at before it takes a root: the part of a difference along the direction, and whether a part's size is past a limit

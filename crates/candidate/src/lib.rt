@@ -15,13 +15,6 @@ ghost use Rattle.candidate.specs.Steps.{steps_apart};
 use emath::{Rangef, Rect, Vec2};
 use input::{DOWN, LEFT, RIGHT, UP};
 
-// Outside the cone, or a score: the smaller, the better.
-#[derive(Clone, Copy)]
-pub enum Judged {
-    Outside,
-    Score(f32),
-}
-
 // 0 where the ranges overlap by half of the smaller one or more, else how far the middle of a lies past that of b.
 pub fn range_diff(a: Rangef, b: Rangef) -> f32
     ensures { result ≡ range_diff a b }
@@ -57,32 +50,30 @@ fn along(v: Vec2, direction: u64) -> f32
 }
 
 // Whether a part of the difference is past the limit. If so, its score is past the limit too.
+#[tactic(auto, unfolding(crate::specs::Candidate::is_farther))]
 pub fn is_farther(v: Vec2, limit: f32) -> bool
     ensures { result ≡ is_farther v limit }
 {
-    if limit < grid::magnitude(v.x) {
-        return true;
-    }
-    limit < grid::magnitude(v.y)
+    limit < grid::magnitude(v.x) || limit < grid::magnitude(v.y)
 }
 
-// The cosine is at most half where one part is twice the part ahead or more, so no root is taken for what lies behind or far to a side.
-pub fn judge(v: Vec2, direction: u64) -> Judged
+// The score, the smaller the better; none outside the cone. The cosine is at most half where one part is twice the part ahead or more, so no root is taken for what lies behind or far to a side.
+pub fn judge(v: Vec2, direction: u64) -> Option<f32>
     ensures { result ≡ judge_of v direction }
 {
     let ahead = along(v, direction);
     if ahead <= 0.0 {
-        return Judged::Outside;
+        return None;
     }
     if is_farther(v, 2.0 * ahead) {
-        return Judged::Outside;
+        return None;
     }
     let distance = vec2::length(v);
     let cos = ahead / distance;
     if f32::from_bits(0x3f35_04f3) <= cos {
-        return Judged::Score(distance / (cos * cos));
+        return Some(distance / (cos * cos));
     }
-    Judged::Outside
+    None
 }
 
 // On the grid range_diff is document 01's difference: ends in 32nds, the difference in 64ths. There is nothing to run.

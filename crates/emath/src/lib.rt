@@ -34,30 +34,20 @@ pub struct Rect {
     pub max: Pos2,
 }
 
-// f32::max: of a NaN and a number, the number.
+// f32::max: of a NaN and a number, the number. Of two zeros it is the first; std's leaves that open.
+#[tactic(auto, unfolding(crate::specs::Range::max_f))]
 pub fn max(a: f32, b: f32) -> f32
     ensures { result ≡ max_f a b }
 {
-    if a < b {
-        return b;
-    }
-    if a != a {
-        return b;
-    }
-    a
+    if a < b || a.is_nan() { b } else { a }
 }
 
-// f32::min: of a NaN and a number, the number.
+// f32::min: of a NaN and a number, the number. Of two zeros it is the first; std's leaves that open.
+#[tactic(auto, unfolding(crate::specs::Range::min_f))]
 pub fn min(a: f32, b: f32) -> f32
     ensures { result ≡ min_f a b }
 {
-    if b < a {
-        return b;
-    }
-    if a != a {
-        return b;
-    }
-    a
+    if b < a || a.is_nan() { b } else { a }
 }
 
 // On a grid the larger and the smaller of two numbers are those of their steps. There is nothing to run.
@@ -78,18 +68,21 @@ impl Pos2 {
 }
 
 impl Rangef {
+    #[tactic(auto, unfolding(crate::specs::Range::span_of))]
     pub fn span(self) -> f32
         ensures { result ≡ span_of self }
     {
         self.max - self.min
     }
 
+    #[tactic(auto, unfolding(crate::specs::Range::center_of))]
     pub fn center(self) -> f32
         ensures { result ≡ center_of self }
     {
         0.5 * (self.min + self.max)
     }
 
+    #[tactic(auto, unfolding(crate::specs::Range::intersection_of))]
     pub fn intersection(self, other: Rangef) -> Rangef
         ensures { result ≡ intersection_of self other }
     {
@@ -105,7 +98,7 @@ impl Rect {
     pub fn everything() -> Rect
         ensures { result ≡ everything }
     {
-        let infinity = f32::from_bits(0x7f80_0000);
+        let infinity = f32::INFINITY;
         Rect {
             min: Pos2 {
                 x: -infinity,
@@ -122,7 +115,7 @@ impl Rect {
         ensures { result ≡ from_min_size min size }
     {
         Rect {
-            min: min,
+            min,
             max: Pos2 {
                 x: min.x + size.x,
                 y: min.y + size.y,
@@ -131,17 +124,11 @@ impl Rect {
     }
 
     // Edges included.
+    #[tactic(auto, unfolding(crate::specs::Rect::contains_pos))]
     pub fn contains(self, p: Pos2) -> bool
         ensures { result ≡ contains_pos self p }
     {
-        if self.min.x <= p.x {
-            if p.x <= self.max.x {
-                if self.min.y <= p.y {
-                    return p.y <= self.max.y;
-                }
-            }
-        }
-        false
+        self.min.x <= p.x && p.x <= self.max.x && self.min.y <= p.y && p.y <= self.max.y
     }
 
     pub fn x_range(self) -> Rangef
@@ -165,11 +152,9 @@ impl Rect {
     pub fn round_ui(self) -> Rect
         ensures { result ≡ round_rect self }
     {
-        let min = self.min;
-        let max = self.max;
         Rect {
-            min: min.round_ui(),
-            max: max.round_ui(),
+            min: self.min.round_ui(),
+            max: self.max.round_ui(),
         }
     }
 }

@@ -1,3 +1,2 @@
 pub mod Grid
-pub mod Nearest
 pub mod Rounding

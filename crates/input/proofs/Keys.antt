@@ -4,16 +4,11 @@ use Prim.Native.Nat.{ℕ, ◌≤◌}
 use native.Mathlib.Omega.{arith}
 use mathlib.Core.Bool.{Bool, true, false, not, cond}
 use borrow.Author.Tests.{ne_eqb}
-use Rattle.refusal.specs.Refusal.{lowest, id_refusal, code_refusal}
-use Rattle.refusal.specs.Limits.{last_key, last_modifiers}
-use Rattle.input.specs.declared.Event.{Event}
-use Rattle.input.specs.declared.Event.TheVariants.{Key, AccessKitFocus}
 use Rattle.input.specs.declared.EventFilter.{EventFilter}
 use Rattle.input.specs.declared.Navigation.{Navigation}
 use Rattle.input.specs.declared.Navigation.TheVariants.{Unchanged, Direction, Escape}
-use Rattle.input.specs.Event.{event_refusal}
-use Rattle.input.specs.EventFilter.{matches_key, matches_of}
-use Rattle.input.specs.FocusDirection.{is_cardinal, navigation_of}
+use Rattle.input.specs.EventFilter.{matches_key}
+use Rattle.input.specs.FocusDirection.{navigation_of}
 use Rattle.input.specs.Modifiers.{any_of, shift_only}
 
 -- a key that needs every modifier off, as `plain` and `tab` ask for it
@@ -58,17 +53,3 @@ unfolding matches_key
 matches_other f k h =
     sym
     (rw (ne_eqb k 5 (omega arith), ne_eqb k 3 (omega arith), ne_eqb k 0 (omega arith), ne_eqb k 2 (omega arith), ne_eqb k 1 (omega arith), ne_eqb k 4 (omega arith)))
-
--- ---- an event, by its case
-pub key_refused : (e : Event) (key modifiers : ℕ) (pressed repeat : Bool) (a b n : ℕ) → e ≡ Key key pressed repeat modifiers → a ≡ code_refusal key last_key → b ≡ code_refusal modifiers last_modifiers → n ≡ lowest a b → n ≡ event_refusal e
-key_refused e key modifiers pressed repeat a b n h ea eb en = en ∙ (λ i. lowest (ea i) (eb i)) ∙ ap event_refusal (sym h)
-
-pub focus_refused : (e : Event) (id n : ℕ) → e ≡ AccessKitFocus id → n ≡ id_refusal id → n ≡ event_refusal e
-focus_refused e id n h en = en ∙ ap event_refusal (sym h)
-
-pub key_matched : (f : EventFilter) (e : Event) (key modifiers : ℕ) (pressed repeat r : Bool) → e ≡ Key key pressed repeat modifiers → r ≡ matches_key f key → r ≡ matches_of f e
-key_matched f e key modifiers pressed repeat r h er = er ∙ ap (matches_of f) (sym h)
-
-pub not_cardinal : (d : ℕ) → 4 ≤ d → false ≡ is_cardinal d
-unfolding is_cardinal
-not_cardinal d h = sym (rw (ne_eqb d 0 (omega arith), ne_eqb d 1 (omega arith), ne_eqb d 2 (omega arith), ne_eqb d 3 (omega arith)))

@@ -8,8 +8,7 @@ use lib.Dec.{eqb}
 use lib.Ieee.{inf, lt, eq}
 use borrow.Author.Tests.{ne_eqb}
 use Rattle.emath.specs.declared.Rect.{Rect}
-use Rattle.candidate.specs.declared.Judged.{Judged}
-use Rattle.candidate.specs.declared.Judged.TheVariants.{Outside, Score}
+use Rattle.std.specs.Prelude.{Option, None, Some, Float}
 use Rattle.search.specs.declared.Candidate.{Candidate}
 use Rattle.search.specs.declared.Scored.{Scored}
 use Rattle.search.specs.Search.{considered_of, goes_first, is_better, find_of}
@@ -62,10 +61,10 @@ module _ (focused : ℕ) (current : Rect) (direction : ℕ) where
   walk_same [] b B h = refl
   walk_same (c ∷ rest) b B h = go (considered_of focused current direction c) refl (λ k K. walk_same rest k K (both (eqb c.id 0 || goes_before c rest) (in_tie_order rest) h).1)
     where
-      go : (j : Judged) → considered_of focused current direction c ≡ j → ((k : Scored) → Leads k rest → Same k rest)
+      go : (j : Option Float) → considered_of focused current direction c ≡ j → ((k : Scored) → Leads k rest → Same k rest)
           → walk_of is_smaller focused current direction (taken_of is_smaller b c j) rest ≡ walk_of is_better focused current direction (taken_of is_better b c j) rest
-      go Outside e f = f b (leads_on b c rest B)
-      go (Score x) e f =
+      go None e f = f b (leads_on b c rest B)
+      go (Some x) e f =
           let new : Scored = record { score = x; candidate = c } in
           let N = good focused current direction c x e in
           ap (λ (t : Bool). walk_of is_smaller focused current direction (cond t new b) rest) (same_choice new b rest N B)

@@ -8,8 +8,7 @@ use lib.Dec.{eqb}
 use lib.Ieee.{Float}
 use borrow.Author.Tests.{eq-eqb}
 use Rattle.emath.specs.declared.Rect.{Rect}
-use Rattle.candidate.specs.declared.Judged.{Judged}
-use Rattle.candidate.specs.declared.Judged.TheVariants.{Outside, Score}
+use Rattle.std.specs.Prelude.{Option, None, Some}
 use Rattle.candidate.specs.Candidate.{to_candidate, judge_of}
 use Rattle.candidate.proofs.Reach.{scored_plain, scored_finite}
 use Rattle.search.specs.declared.Candidate.{Candidate}
@@ -35,11 +34,11 @@ start_none better (s ∷ rest) L e = absurd ((least_good better s rest L.0 L.1).
 
 module _ (focused : ℕ) (current : Rect) (direction : ℕ) where
   -- ---- what is in the cone has a plain score below infinity and an id
-  pub good : (c : Candidate) (x : Float) → considered_of focused current direction c ≡ Score x → Good (record { score = x; candidate = c })
+  pub good : (c : Candidate) (x : Float) → considered_of focused current direction c ≡ Some x → Good (record { score = x; candidate = c })
   unfolding considered_of
   good c x e = go (is_candidate focused c.id) refl e
     where
-      go : (t : Bool) → is_candidate focused c.id ≡ t → cond t (judge_of (to_candidate c.rect current) direction) Outside ≡ Score x → Good (record { score = x; candidate = c })
+      go : (t : Bool) → is_candidate focused c.id ≡ t → cond t (judge_of (to_candidate c.rect current) direction) None ≡ Some x → Good (record { score = x; candidate = c })
       go true k h = record {
         score_plain = scored_plain (to_candidate c.rect current) direction x h;
         score_finite = scored_finite (to_candidate c.rect current) direction x h;
@@ -52,9 +51,9 @@ module _ (focused : ℕ) (current : Rect) (direction : ℕ) where
   cone_good [] = tt
   cone_good (c ∷ rest) = go (considered_of focused current direction c) refl (cone_good rest)
     where
-      go : (j : Judged) → considered_of focused current direction c ≡ j → AllGood (in_cone_of focused current direction rest) → AllGood (joined j c (in_cone_of focused current direction rest))
-      go Outside e l = l
-      go (Score x) e l = (good c x e, l)
+      go : (j : Option Float) → considered_of focused current direction c ≡ j → AllGood (in_cone_of focused current direction rest) → AllGood (joined j c (in_cone_of focused current direction rest))
+      go None e l = l
+      go (Some x) e l = (good c x e, l)
 
   -- ---- a walk by any rule
   module _ (better : Scored → Scored → Bool) where
@@ -63,11 +62,11 @@ module _ (focused : ℕ) (current : Rect) (direction : ℕ) where
     walk_least [] b B = refl
     walk_least (c ∷ rest) b B = go (considered_of focused current direction c) refl (walk_least rest)
       where
-        go : (j : Judged) → considered_of focused current direction c ≡ j
+        go : (j : Option Float) → considered_of focused current direction c ≡ j
             → ((k : Scored) → Good k → walk_of better focused current direction k rest ≡ least_of better k (in_cone_of focused current direction rest))
             → walk_of better focused current direction (taken_of better b c j) rest ≡ least_of better b (joined j c (in_cone_of focused current direction rest))
-        go Outside e f = f b B
-        go (Score x) e f =
+        go None e f = f b B
+        go (Some x) e f =
             let new : Scored = record { score = x; candidate = c } in
             f (kept_of better b new) (pick_good (better new b) new b (good c x e) B)
 
@@ -80,12 +79,12 @@ module _ (focused : ℕ) (current : Rect) (direction : ℕ) where
         cone : List Scored
         cone = in_cone_of focused current direction rest
 
-        go : (j : Judged) → considered_of focused current direction c ≡ j
+        go : (j : Option Float) → considered_of focused current direction c ≡ j
             → (Starts better cone → walk_of better focused current direction nothing_yet rest ≡ start_of better cone)
             → Starts better (joined j c cone)
             → walk_of better focused current direction (taken_of better nothing_yet c j) rest ≡ start_of better (joined j c cone)
-        go Outside e f h = f h
-        go (Score x) e f h =
+        go None e f h = f h
+        go (Some x) e f h =
             let new : Scored = record { score = x; candidate = c } in
             ap (λ (t : Bool). walk_of better focused current direction (cond t new nothing_yet) rest) h ∙ walk_least rest new (good c x e)
 

@@ -3,8 +3,7 @@ use Rattle.std.specs.Prelude.{ℕ, Bool, false, ◌&&◌, ◌||◌, not, cond, L
 use Rattle.std.specs.Float.{nan}
 use Rattle.std.specs.Float.Ieee.{lt, eq}
 use Rattle.emath.specs.declared.Rect.{Rect}
-use Rattle.candidate.specs.declared.Judged.{Judged}
-use Rattle.candidate.specs.declared.Judged.TheVariants.{Outside, Score}
+use Rattle.std.specs.Prelude.{Option, None, Some}
 use Rattle.candidate.specs.Candidate.{to_candidate, judge_of}
 use Rattle.search.specs.declared.Candidate.{Candidate}
 use Rattle.search.specs.declared.Scored.{Scored}
@@ -22,12 +21,12 @@ abbrev pub is_candidate : ℕ → ℕ → Bool
 is_candidate focused id = not (eqb id 0 || eqb id focused)
 
 -- a free place and the focused id count as outside
-unfoldable pub considered_of : ℕ → Rect → ℕ → Candidate → Judged
-considered_of focused current direction c = cond (is_candidate focused c.id) (judge_of (to_candidate c.rect current) direction) Outside
+unfoldable pub considered_of : ℕ → Rect → ℕ → Candidate → Option Float
+considered_of focused current direction c = cond (is_candidate focused c.id) (judge_of (to_candidate c.rect current) direction) None
 
-abbrev pub joined : Judged → Candidate → List Scored → List Scored
-joined Outside c rest = rest
-joined (Score x) c rest = record { score = x; candidate = c } ∷ rest
+abbrev pub joined : Option Float → Candidate → List Scored → List Scored
+joined None c rest = rest
+joined (Some x) c rest = record { score = x; candidate = c } ∷ rest
 
 unfoldable pub in_cone_of : ℕ → Rect → ℕ → List Candidate → List Scored
 in_cone_of focused current direction [] = []

@@ -4,8 +4,7 @@ use Rattle.std.specs.Prelude.{ℕ, Bool, false, cond, List, [], ◌∷◌}
 use Rattle.std.specs.Float.{inf}
 use Rattle.emath.specs.declared.Rect.{Rect}
 use Rattle.emath.specs.Rect.{everything}
-use Rattle.candidate.specs.declared.Judged.{Judged}
-use Rattle.candidate.specs.declared.Judged.TheVariants.{Outside, Score}
+use Rattle.std.specs.Prelude.{Option, None, Some, Float}
 use Rattle.search.specs.declared.Candidate.{Candidate}
 use Rattle.search.specs.declared.Scored.{Scored}
 use Rattle.search.specs.Search.{considered_of}
@@ -18,9 +17,9 @@ nothing_yet = record { score = inf false; candidate = record { id = 0; rect = ev
 unfoldable pub kept_of : (Scored → Scored → Bool) → Scored → Scored → Scored
 kept_of takes best new = cond (takes new best) new best
 
-abbrev pub taken_of : (Scored → Scored → Bool) → Scored → Candidate → Judged → Scored
-taken_of takes best c Outside = best
-taken_of takes best c (Score x) = kept_of takes best (record { score = x; candidate = c })
+abbrev pub taken_of : (Scored → Scored → Bool) → Scored → Candidate → Option Float → Scored
+taken_of takes best c None = best
+taken_of takes best c (Some x) = kept_of takes best (record { score = x; candidate = c })
 
 unfoldable pub step_of : (Scored → Scored → Bool) → ℕ → Rect → ℕ → Scored → Candidate → Scored
 step_of takes focused current direction best c = taken_of takes best c (considered_of focused current direction c)

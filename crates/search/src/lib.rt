@@ -1,14 +1,13 @@
 // find_widget_in_direction of memory/mod.rs, once the cache is up to date: the best candidate of a lent table.
 #![tactic(auto)]
 
-ghost use Rattle.std.specs.Prelude.{◌≡◌, true, ℕ, min, List, []};
+ghost use Rattle.std.specs.Prelude.{◌≡◌, true, ℕ, List, []};
 ghost use Rattle.emath.specs.declared.Rect.{Rect};
 ghost use Rattle.search.specs.declared.Candidate.{Candidate};
 ghost use Rattle.search.specs.Search.{table_of, goes_first, is_better, in_cone_of, find_of};
 ghost use Rattle.search.specs.EguiWalk.{egui_finds, IsLeast, in_tie_order};
 ghost use Rattle.search.specs.Walk.{nothing_yet, step_of};
 
-use candidate::Judged;
 use emath::{Pos2, Rect};
 
 #[derive(Clone, Copy)]
@@ -25,6 +24,7 @@ pub struct Scored {
 }
 
 // The tie rule, for equal scores.
+#[tactic(auto, unfolding(crate::specs::Search::goes_first))]
 fn goes_first(a: Candidate, b: Candidate) -> bool
     ensures { result ≡ goes_first a b }
 {
@@ -32,18 +32,11 @@ fn goes_first(a: Candidate, b: Candidate) -> bool
 }
 
 // The smaller score, ties by the tie rule.
+#[tactic(auto, unfolding(crate::specs::Search::is_better))]
 fn is_better(a: Scored, b: Scored) -> bool
     ensures { result ≡ is_better a b }
 {
-    if a.score < b.score {
-        return true;
-    }
-    if a.score == b.score {
-        let new = a.candidate;
-        let old = b.candidate;
-        return goes_first(new, old);
-    }
-    false
+    a.score < b.score || a.score == b.score && goes_first(a.candidate, b.candidate)
 }
 
 // The better of the best so far and c.
@@ -56,23 +49,18 @@ fn consider(best: Scored, c: Candidate, focused: u64, current: Rect, direction: 
     if c.id == focused {
         return best;
     }
-    let rect = c.rect;
-    let difference = candidate::to_candidate(rect, current);
+    let difference = candidate::to_candidate(c.rect, current);
     if candidate::is_farther(difference, best.score) {
         return best;
     }
-    let judged = candidate::judge(difference, direction);
-    match judged {
-        Judged::Outside => best,
-        Judged::Score(score) => {
+    match candidate::judge(difference, direction) {
+        None => best,
+        Some(score) => {
             let new = Scored {
-                score: score,
+                score,
                 candidate: c,
             };
-            if is_better(new, best) {
-                return new;
-            }
-            best
+            if is_better(new, best) { new } else { best }
         }
     }
 }
@@ -90,22 +78,14 @@ fn nothing() -> Scored
     }
 }
 
-fn fewer(a: usize, b: usize) -> usize
-    ensures { result ≡ min a b }
-{
-    if a < b { a } else { b }
-}
-
 // The id of the candidate in the cone of the direction, as seen from the rectangle `current` of the id `focused`, with the least score,
 // ties by the tie rule; 0 where none lies in the cone. A place is an id, 0 where it is free, and four of rects: left, top, right, bottom;
 // what the longer slice has more is not looked at.
 pub fn find(ids: &[u64], rects: &[f32], focused: u64, current: Rect, direction: u64) -> u64
     ensures { result ≡ find_of (table_of ids.now rects.now) focused current direction }
 {
-    let n = fewer(ids.len(), rects.len() / 4);
     let mut best = nothing();
-    let mut i: usize = 0;
-    while i < n {
+    for i in 0..ids.len().min(rects.len() / 4) {
         let at = 4 * i;
         let c = Candidate {
             id: ids[i],
@@ -121,10 +101,8 @@ pub fn find(ids: &[u64], rects: &[f32], focused: u64, current: Rect, direction: 
             },
         };
         best = consider(best, c, focused, current, direction);
-        i += 1;
     }
-    let found = best.candidate;
-    found.id
+    best.candidate.id
 }
 
 // Nothing is found exactly where no candidate lies in the cone. There is nothing to run.

@@ -15,12 +15,12 @@ returns-then-is_farther c =
 
 pub returns-then-is_better : goal.returns-then-is_better
 returns-then-is_better c =
-    taken _ _ _ _ _ c.if-c-eq0.false c.if-c-focused.false _ c.to_candidate-difference.ensures _ c.judge-judged.ensures _ c.in-Score.is _ c.is_better.ensures c.if-is_better.true
+    taken _ _ _ _ _ c.if-c-eq0.false c.if-c-focused.false _ c.to_candidate-difference.ensures _ c.judge.ensures _ c.in-Some.is _ c.is_better.ensures c.if-is_better.true
 
-pub returns-in-Outside : goal.returns-in-Outside
-returns-in-Outside c =
-    outside _ _ _ _ _ c.if-c-eq0.false c.if-c-focused.false _ c.to_candidate-difference.ensures _ c.judge-judged.ensures c.in-Outside.is
+pub returns-in-None : goal.returns-in-None
+returns-in-None c =
+    outside _ _ _ _ _ c.if-c-eq0.false c.if-c-focused.false _ c.to_candidate-difference.ensures _ c.judge.ensures c.in-None.is
 
 pub returns-else-is_better : goal.returns-else-is_better
 returns-else-is_better c =
-    left _ _ _ _ _ c.if-c-eq0.false c.if-c-focused.false _ c.to_candidate-difference.ensures _ c.judge-judged.ensures _ c.in-Score.is _ c.is_better.ensures c.if-is_better.false
+    left _ _ _ _ _ c.if-c-eq0.false c.if-c-focused.false _ c.to_candidate-difference.ensures _ c.judge.ensures _ c.in-Some.is _ c.is_better.ensures c.if-is_better.false

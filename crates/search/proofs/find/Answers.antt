@@ -9,13 +9,13 @@ use Rattle.search.proofs.find.Goals as goal
 
 pub loop-i-init : goal.loop-i-init
 loop-i-init c =
-    (omega arith, λ i. walk_of is_better c.args.focused c.args.current c.args.direction (c.nothing-best.ensures i) (rest_all c.args.ids.now c.args.rects.now i))
+    λ i. walk_of is_better c.args.focused c.args.current c.args.direction (c.nothing-best.ensures i) (rest_all c.args.ids.now c.args.rects.now i)
 
 pub loop-i-preserved : goal.loop-i-preserved
 loop-i-preserved c =
-    (omega arith, walk_more c.args.ids.now c.args.rects.now c.args.focused c.args.current c.args.direction c.loop-i.best c.loop-i.i (omega arith) c.consider-best.result c.consider-best.ensures ∙ c.loop-i.invariant.1)
+    walk_more c.args.ids.now c.args.rects.now c.args.focused c.args.current c.args.direction c.loop-i.best c.loop-i.i (omega arith) c.consider-best.result c.consider-best.ensures ∙ c.loop-i.invariant
 
 pub returns : goal.returns
 returns c =
-    ap (λ (s : Scored). s.candidate.id) (sym (walk_done c.args.ids.now c.args.rects.now c.args.focused c.args.current c.args.direction c.loop-i.best c.loop-i.i (omega arith)) ∙ c.loop-i.invariant.1)
+    ap (λ (s : Scored). s.candidate.id) (sym (walk_done c.args.ids.now c.args.rects.now c.args.focused c.args.current c.args.direction c.loop-i.best c.loop-i.i (omega arith)) ∙ c.loop-i.invariant)
     ∙ walk_finds c.args.focused c.args.current c.args.direction (table_of c.args.ids.now c.args.rects.now)
