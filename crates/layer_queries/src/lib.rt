@@ -2,17 +2,18 @@
 #![tactic(auto)]
 
 ghost use Rattle.std.specs.Prelude.{◌≡◌, Bool};
+ghost use Rattle.std.specs.Ordering.{ordering_index};
 ghost use Rattle.layer_rows.specs.declared.Row.{Row};
 ghost use Rattle.refusal.specs.Refusal.{lowest, code_refusal};
 ghost use Rattle.refusal.specs.Limits.{last_order};
 ghost use Rattle.layers.specs.Layers.{layer_refusal};
 ghost use Rattle.layer_rows.specs.Rows.{held_rows, row_of};
-ghost use Rattle.layer_queries.specs.Queries.{is_child_row, is_window_row, is_listed, is_top_row, rank_in, compared, compared_by, ordering_answer, shown_last, is_visible_row, is_sublayer_row, flag_answer, parent_in, last_of, layer_answer};
+ghost use Rattle.layer_queries.specs.Queries.{is_child_row, is_window_row, is_listed, is_top_row, rank_in, compared_by, ordering_answer, shown_last, is_visible_row, is_sublayer_row, flag_answer, parent_in, last_of, layer_answer};
 
-use std::cmp::Ordering;
 use layer_rows::Row;
 use layers::LayerId;
 use refusal::{LAST_ORDER, NONE};
+use std::cmp::Ordering;
 
 #[derive(Clone, Copy)]
 pub enum FlagAnswer {
@@ -172,10 +173,10 @@ fn rank(rows: &[u64], placed: usize, layer: LayerId) -> usize
     0
 }
 
-fn compared(a: u64, b: u64) -> u64
-    ensures { result ≡ compared a b }
+fn code(order: Ordering) -> u64
+    ensures { result ≡ ordering_index order }
 {
-    match a.cmp(&b) {
+    match order {
         Ordering::Less => 0,
         Ordering::Equal => 1,
         Ordering::Greater => 2,
@@ -186,10 +187,8 @@ fn compared(a: u64, b: u64) -> u64
 pub fn by_place(rows: &[u64], placed: usize, a: LayerId, b: LayerId) -> u64
     ensures { result ≡ compared_by (held_rows placed rows.now) a b }
 {
-    if a.order == b.order {
-        return compared(rank(rows, placed, a) as u64, rank(rows, placed, b) as u64);
-    }
-    compared(a.order, b.order)
+    let by_rank = || rank(rows, placed, a).cmp(&rank(rows, placed, b));
+    code(a.order.cmp(&b.order).then_with(by_rank))
 }
 
 // The rows that have a place are the first so many.
