@@ -168,7 +168,15 @@ impl Areas {
     pub fn layer_id_at(self, pos: Pos2) -> LayerAnswer
         ensures { result ≡ layer_id_at (tables_of self) pos }
     {
-        area_stack::layer_id_at(&self.rows, &self.ids, &self.codes, &self.floats, self.count, self.states, pos)
+        area_stack::layer_id_at(
+            &self.rows,
+            &self.ids,
+            &self.codes,
+            &self.floats,
+            self.count,
+            self.states,
+            pos,
+        )
     }
 
     pub fn visible_last_frame(self, layer: LayerId) -> FlagAnswer
@@ -203,13 +211,16 @@ impl Areas {
 
     // ---- listings, in stack order
 
+    #[tactic(auto, using(crate::proofs::Listings::inside))]
     fn list(self, listing: Listing) -> Layers
         ensures { result ≡ listed (layers_of self listing) }
     {
         let mut layers = [LayerId { order: 0, id: 0 }; LAYERS];
         let mut n = 0;
         let mut from = 0;
-        while let Some((next, layer)) = area_stack::next_layer(&self.rows, self.count, from, listing) {
+        while let Some((next, layer)) = area_stack::next_layer(
+            &self.rows, self.count, from, listing,
+        ) {
             layers[n] = layer;
             n += 1;
             from = next;
@@ -248,6 +259,7 @@ impl Areas {
         self.list(Listing::Children(layer))
     }
 
+    #[tactic(auto, using(crate::proofs::WindowRows::inside))]
     pub fn visible_windows(self) -> Windows
         ensures { result ≡ windows_listed (windows_of self) }
     {

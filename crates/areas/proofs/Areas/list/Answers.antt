@@ -1,27 +1,12 @@
 use mathlib.Core.Path.{refl}
 use native.Mathlib.Omega.{arith}
 use borrow.Author.Rules.{rules}
-use Rattle.tables.proofs.Written.{none_written, same_long, write}
+use Rattle.tables.proofs.Written.{none_written, write}
 use Rattle.areas.proofs.Listings.{inside, none_left, one_left, all_listed}
 use Rattle.areas.proofs.Areas.list.Goals as goal
 
 pub loop-next-init : goal.loop-next-init
 loop-next-init c = (search rules, omega arith, none_written _ _ _ refl)
-
-pub bounds-layers-n : goal.bounds-layers-n
-bounds-layers-n c =
-    let l = inside _ _ _ _ _ _ c.loop-next.invariant.0 c.next_layer.ensures c.in-Some.is in
-    omega arith
-
-pub offset_bounds-layers-n : goal.offset_bounds-layers-n
-offset_bounds-layers-n c =
-    let l = inside _ _ _ _ _ _ c.loop-next.invariant.0 c.next_layer.ensures c.in-Some.is in
-    omega arith
-
-pub overflow_add-n : goal.overflow_add-n
-overflow_add-n c =
-    let l = inside _ _ _ _ _ _ c.loop-next.invariant.0 c.next_layer.ensures c.in-Some.is in
-    omega arith
 
 pub loop-next-smaller : goal.loop-next-smaller
 loop-next-smaller c =

@@ -3,7 +3,7 @@ use native.Mathlib.Omega.{arith}
 use lib.ListN.{replicate}
 use borrow.Author.Rules.{rules}
 use Rattle.refusal.specs.Limits.{layers}
-use Rattle.tables.proofs.Written.{none_written, same_long, write}
+use Rattle.tables.proofs.Written.{none_written, write}
 use Rattle.area.specs.declared.AreaState.{AreaState}
 use Rattle.areas.specs.declared.Window.{Window}
 use Rattle.areas.specs.Areas.{no_layer}
@@ -14,21 +14,6 @@ pub loop-next-init : goal.loop-next-init
 loop-next-init c =
     let blank : AreaState → Window = λ s. record { layer = no_layer; state = s } in
     (search rules, omega arith, none_written _ _ _ (ap (λ s. replicate layers (blank s)) c.new.ensures))
-
-pub bounds-windows-n : goal.bounds-windows-n
-bounds-windows-n c =
-    let l = inside _ _ _ _ _ _ _ c.loop-next.invariant.0 c.next_window.ensures c.in-Some.is in
-    omega arith
-
-pub offset_bounds-windows-n : goal.offset_bounds-windows-n
-offset_bounds-windows-n c =
-    let l = inside _ _ _ _ _ _ _ c.loop-next.invariant.0 c.next_window.ensures c.in-Some.is in
-    omega arith
-
-pub overflow_add-n : goal.overflow_add-n
-overflow_add-n c =
-    let l = inside _ _ _ _ _ _ _ c.loop-next.invariant.0 c.next_window.ensures c.in-Some.is in
-    omega arith
 
 pub loop-next-smaller : goal.loop-next-smaller
 loop-next-smaller c =
