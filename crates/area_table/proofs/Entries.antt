@@ -10,12 +10,10 @@ use lib.Dec.{eqb, ltb}
 use lib.ListN.{length, get_or, take, set, length-set, length-append, get_or-append}
 use lib.Seq.{length-take-le, get_or-take, get_or_at, get_or-set_same, get_or-set_other, ext_get_or}
 use borrow.Author.Tests.{eqb-true, eqb-false, eq-eqb, ne_eqb, lt-ltb, le-ltb}
-use Rattle.tables.specs.declared.Found.{Found}
-use Rattle.tables.specs.declared.Found.TheVariants.{At, Nothing}
 use Rattle.tables.proofs.Finding.{nearest_at, nearest_none}
 use Rattle.tables.proofs.Rows.{put_length}
 use Rattle.area.specs.declared.AreaState.{AreaState}
-use Rattle.std.specs.Prelude.{None, Some}
+use Rattle.std.specs.Prelude.{Option, None, Some}
 use Rattle.area_table.specs.Table.{Table, Entry, codes_of, floats_of, room_of, held_in, found_in, spot_at, spot_of, held_at, held_of, put_in, entries_from, entries_of, get_in, insert_in, Distinct, elem}
 use Rattle.area_table.proofs.Places.{rows_fit}
 use Rattle.area_table.proofs.States.{entry_at, with_row, entry_here, entry_there}
@@ -186,24 +184,24 @@ module _ (t : Table) (count from id : ℕ) where
   entry_id : (k : ℕ) → k < n → (get_or es k d).id ≡ get_or (take n t.ids) k 0
   entry_id k h = ap (λ (e : Entry). e.id) (entry_get k h) ∙ sym (get_or-take n t.ids k 0 h)
 
-  found_at : (k : ℕ) → found_in t.ids n from id ≡ At k → (k < n) × (k < length es) × ((get_or es k d).id ≡ id)
+  found_at : (k : ℕ) → found_in t.ids n from id ≡ Some k → (k < n) × (k < length es) × ((get_or es k d).id ≡ id)
   found_at k e =
       let (h, p) = nearest_at (take n t.ids) from id k e in
       let l : k < n = omega (arith, held_ids) in
       (l, omega (arith, entries_length t count), entry_id k l ∙ p)
 
-  found_none : found_in t.ids n from id ≡ Nothing → get_in es id ≡ None
+  found_none : found_in t.ids n from id ≡ None → get_in es id ≡ None
   found_none e = get_none d id es (λ i h p. let l : i < n = omega (arith, entries_length t count) in nearest_none (take n t.ids) from id i e (omega (arith, held_ids)) (sym (entry_id i l) ∙ p))
 
   pub entries_get : Distinct (entries_of t count) → held_of t count from id ≡ get_in (entries_of t count) id
   unfolding held_of
   entries_get u = go (found_in t.ids n from id) refl
     where
-      go : (f : Found) → found_in t.ids n from id ≡ f → held_at t f ≡ get_in es id
-      go (At k) e =
+      go : (f : Option ℕ) → found_in t.ids n from id ≡ f → held_at t f ≡ get_in es id
+      go (Some k) e =
           let (h, l, p) = found_at k e in
           sym (get_at d id es k u l p ∙ ap (λ (e : Entry). Some e.state) (entry_get k h))
-      go Nothing e = sym (found_none e)
+      go None e = sym (found_none e)
 
   module _ (s : AreaState) (u : Distinct (entries_of t count)) where
     abbrev new : Entry
@@ -213,21 +211,21 @@ module _ (t : Table) (count from id : ℕ) where
     unfolding spot_of
     entries_count = go (found_in t.ids n from id) refl
       where
-        go : (f : Found) → found_in t.ids n from id ≡ f → length (insert_in es id s) ≡ cond (ltb (spot_at f n) n) n (spot_at f n + 1)
-        go (At k) e =
+        go : (f : Option ℕ) → found_in t.ids n from id ≡ f → length (insert_in es id s) ≡ cond (ltb (spot_at f n) n) n (spot_at f n + 1)
+        go (Some k) e =
             let (h, l, p) = found_at k e in
             rw (lt-ltb k n h, insert_at_lem d id s es k u l p) (length-set es k new ∙ entries_length t count)
-        go Nothing e = rw (le-ltb n n (omega arith), insert_none es id s (found_none e)) (simp length-append (omega (arith, entries_length t count)))
+        go None e = rw (le-ltb n n (omega arith), insert_none es id s (found_none e)) (simp length-append (omega (arith, entries_length t count)))
 
     pub entries_put : spot_of t count from id < room_of t → entries_of (put_in t (spot_of t count from id) id s) (length (insert_in (entries_of t count) id s)) ≡ insert_in (entries_of t count) id s
     unfolding spot_of
     entries_put = go (found_in t.ids n from id) refl
       where
-        go : (f : Found) → found_in t.ids n from id ≡ f → spot_at f n < room_of t → entries_of (put_in t (spot_at f n) id s) (length (insert_in es id s)) ≡ insert_in es id s
-        go (At k) e r =
+        go : (f : Option ℕ) → found_in t.ids n from id ≡ f → spot_at f n < room_of t → entries_of (put_in t (spot_at f n) id s) (length (insert_in es id s)) ≡ insert_in es id s
+        go (Some k) e r =
             let (h, l, p) = found_at k e in
             let m = length-set es k new ∙ entries_length t count in
             rw (insert_at_lem d id s es k u l p) (put_entries t k id s d (set es k new) r (omega arith) (λ i b o. sym (get_or-set_other es k i new d o ∙ entry_get i (omega arith))) (sym (get_or-set_same es k new d l)))
-        go Nothing e r =
+        go None e r =
             let m : length (es ++ new ∷ []) ≡ n + 1 = simp length-append (omega (arith, entries_length t count)) in
             rw (insert_none es id s (found_none e)) (put_entries t n id s d (es ++ new ∷ []) r (omega arith) (λ i b o. sym (get_or-append es (new ∷ []) d i (omega (arith, entries_length t count)) ∙ entry_get i (omega arith))) (sym (get_or_at es new [] d n (entries_length t count))))

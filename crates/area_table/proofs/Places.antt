@@ -8,11 +8,9 @@ use lib.ListN.{length, take, set}
 use lib.Seq.{length-take-le}
 use borrow.Author.Tests.{lt-ltb, le-ltb}
 use Rattle.area.specs.declared.AreaState.{AreaState}
-use Rattle.tables.specs.declared.Found.{Found}
-use Rattle.tables.specs.declared.Found.TheVariants.{At, Nothing}
 use Rattle.tables.specs.Tables.{put_at}
 use Rattle.tables.proofs.Finding.{nearest_at}
-use Rattle.std.specs.Prelude.{None, Some}
+use Rattle.std.specs.Prelude.{Option, None, Some}
 use Rattle.area_table.specs.Table.{Table, table_in, room_of, held_in, found_in, spot_of, state_in, held_of, codes_of, floats_of, put_in}
 
 -- ---- the rows that there is room for are there
@@ -33,30 +31,30 @@ module _ (t : Table) (count n : ℕ) (e : n ≡ held_in count t) where
   pub held_fits : n ≤ length t.ids
   held_fits = (rows_fit t n (omega arith)).0
 
-  module _ (from id : ℕ) (f : Found) (p : f ≡ found_in t.ids n from id) where
+  module _ (from id : ℕ) (f : Option ℕ) (p : f ≡ found_in t.ids n from id) where
     found_is : f ≡ found_in t.ids (held_in count t) from id
     found_is = rw (← e) p
 
-    pub found_fits : (k : ℕ) → f ≡ At k → (5 * k + 5 ≤ length t.codes) × (4 * k + 4 ≤ length t.floats)
+    pub found_fits : (k : ℕ) → f ≡ Some k → (5 * k + 5 ≤ length t.codes) × (4 * k + 4 ≤ length t.floats)
     found_fits k a =
         let b = (nearest_at (take n t.ids) from id k (sym p ∙ a)).0 in
         let l = length-take-le n t.ids held_fits in
         let c = row_fits t k (room_of t) (omega arith) refl in
         (c.1, c.2)
 
-    pub get_at : (k : ℕ) (s : AreaState) → f ≡ At k → s ≡ state_in t.codes t.floats k → Some s ≡ held_of t count from id
+    pub get_at : (k : ℕ) (s : AreaState) → f ≡ Some k → s ≡ state_in t.codes t.floats k → Some s ≡ held_of t count from id
     unfolding held_of
     get_at k s a x = rw (← found_is, a, x)
 
-    pub get_none : f ≡ Nothing → None ≡ held_of t count from id
+    pub get_none : f ≡ None → None ≡ held_of t count from id
     unfolding held_of
     get_none a = rw (← found_is, a)
 
-    pub spot_at_lem : (k : ℕ) → f ≡ At k → k ≡ spot_of t count from id
+    pub spot_at_lem : (k : ℕ) → f ≡ Some k → k ≡ spot_of t count from id
     unfolding spot_of
     spot_at_lem k a = rw (← found_is, a)
 
-    pub spot_none : f ≡ Nothing → n ≡ spot_of t count from id
+    pub spot_none : f ≡ None → n ≡ spot_of t count from id
     unfolding spot_of
     spot_none a = rw (← found_is, a) e
 

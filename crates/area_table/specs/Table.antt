@@ -3,8 +3,6 @@
 use Rattle.std.specs.Prelude.{Option, None, Some, ℕ, zero, suc, ◌+◌, ◌*◌, ◌/◌, min, ◌≡◌, Bool, true, false, cond, not, List, [], ◌∷◌, eqb, ltb, Float, length, get_or, take, set}
 use Rattle.std.specs.Float.{nan, binary32}
 use Rattle.std.specs.Float.Ieee.{of_bits}
-use Rattle.tables.specs.declared.Found.{Found}
-use Rattle.tables.specs.declared.Found.TheVariants.{At, Nothing}
 use Rattle.tables.specs.Tables.{nearest, put_at}
 use Rattle.area.specs.declared.PivotPos.{PivotPos}
 use Rattle.area.specs.declared.Size.{Size}
@@ -62,19 +60,19 @@ abbrev pub held_in : ℕ → Table → ℕ
 held_in count t = min count (room_of t)
 
 -- ---- where an id stands, and its state
-abbrev pub found_in : List ℕ → ℕ → ℕ → ℕ → Found
+abbrev pub found_in : List ℕ → ℕ → ℕ → ℕ → Option ℕ
 found_in ids n from id = nearest (take n ids) from id
 
-abbrev pub spot_at : Found → ℕ → ℕ
-spot_at (At k) n = k
-spot_at Nothing n = n
+abbrev pub spot_at : Option ℕ → ℕ → ℕ
+spot_at (Some k) n = k
+spot_at None n = n
 
 unfoldable pub spot_of : Table → ℕ → ℕ → ℕ → ℕ
 spot_of t count from id = spot_at (found_in t.ids (held_in count t) from id) (held_in count t)
 
-abbrev pub held_at : Table → Found → Option AreaState
-held_at t (At k) = Some (state_in t.codes t.floats k)
-held_at t Nothing = None
+abbrev pub held_at : Table → Option ℕ → Option AreaState
+held_at t (Some k) = Some (state_in t.codes t.floats k)
+held_at t None = None
 
 unfoldable pub held_of : Table → ℕ → ℕ → ℕ → Option AreaState
 held_of t count from id = held_at t (found_in t.ids (held_in count t) from id)

@@ -10,7 +10,6 @@ ghost use Rattle.tables.specs.Tables.{put_at};
 ghost use Rattle.area_table.specs.Table.{table_in, room_of, held_in, found_in, spot_of, state_in, codes_of, floats_of, held_of, put_in};
 
 use area::{Align2, AreaState, PivotPos, Size};
-use tables::Found;
 
 // ---- a state and its numbers
 
@@ -58,7 +57,7 @@ fn put_state(codes: &mut [u64], floats: &mut [f32], k: usize, s: AreaState)
         u64::from(s.interactable),
     ];
     tables::put(codes, 5 * k, &code);
-    tables::put_floats(floats, 4 * k, &[x, y, w, h]);
+    tables::put(floats, 4 * k, &[x, y, w, h]);
 }
 
 // ---- the map
@@ -78,7 +77,7 @@ pub fn len(ids: &[u64], codes: &[u64], floats: &[f32], count: usize) -> usize
     count.min(room(ids, codes, floats))
 }
 
-fn find(ids: &[u64], n: usize, from: usize, id: u64) -> Found
+fn find(ids: &[u64], n: usize, from: usize, id: u64) -> Option<usize>
     requires { n ≤ length ids.now }
     ensures { result ≡ found_in ids.now n from id }
 {
@@ -98,10 +97,8 @@ pub fn get(
     ensures { result ≡ held_of (table_in ids.now codes.now floats.now) count from id }
 {
     let n = len(ids, codes, floats, count);
-    match find(ids, n, from, id) {
-        Found::At(k) => Some(read(codes, floats, k)),
-        Found::Nothing => None,
-    }
+    let k = find(ids, n, from, id)?;
+    Some(read(codes, floats, k))
 }
 
 // The row of an id, or how many are held where it has none.
@@ -110,10 +107,7 @@ pub fn spot(ids: &[u64], codes: &[u64], floats: &[f32], count: usize, from: usiz
     ensures { result ≡ spot_of (table_in ids.now codes.now floats.now) count from id }
 {
     let n = len(ids, codes, floats, count);
-    match find(ids, n, from, id) {
-        Found::At(k) => k,
-        Found::Nothing => n,
-    }
+    find(ids, n, from, id).unwrap_or(n)
 }
 
 // Puts an id and its state in row k; past the room it changes nothing.

@@ -6,7 +6,7 @@ pub find-requires : goal.find-requires
 find-requires c = held_fits _ _ _ c.len-n.ensures
 
 pub read-requires : goal.read-requires
-read-requires c = found_fits _ _ _ c.len-n.ensures _ _ _ c.find.ensures _ c.in-At.is
+read-requires c = found_fits _ _ _ c.len-n.ensures _ _ _ c.find.ensures _ c.in_ok-k.was
 
-pub returns-in-At : goal.returns-in-At
-returns-in-At c = get_at _ _ _ c.len-n.ensures _ _ _ c.find.ensures _ _ c.in-At.is c.read.ensures
+pub returns : goal.returns
+returns c = get_at _ _ _ c.len-n.ensures _ _ _ c.find.ensures _ _ c.in_ok-k.was c.read.ensures
