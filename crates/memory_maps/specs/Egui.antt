@@ -1,5 +1,6 @@
 -- Memory of memory/mod.rs (its fields from line 31 on, and lines 786 to 1187) with one viewport, in its own terms, by the methods of its Areas and its Focus. Definitions only.
 use Rattle.std.specs.Prelude.{ℕ, Bool, true, false, cond, not, ◌&&◌, ◌||◌, List, ◌==◌}
+use Rattle.std.specs.Prelude.{Option as Held, None, Some}
 use Rattle.std.proofs.Math.Option.{Option, none, some}
 use Rattle.emath.specs.declared.Pos2.{Pos2}
 use Rattle.emath.specs.declared.Rect.{Rect}
@@ -10,8 +11,6 @@ use Rattle.input.specs.declared.EventFilter.{EventFilter}
 use Rattle.layers.specs.declared.LayerId.{LayerId}
 use Rattle.layer_queries.specs.declared.LayerAnswer.{LayerAnswer}
 use Rattle.layer_queries.specs.declared.LayerAnswer.TheVariants as LayerAnswer
-use Rattle.area_table.specs.declared.Held.{Held}
-use Rattle.area_table.specs.declared.Held.TheVariants.{Vacant, Occupied}
 use Rattle.search.specs.declared.Candidate.{Candidate}
 use Rattle.focus_rules.specs.declared.FocusWidget.TheVariants.{Absent}
 use Rattle.area_maps.specs.Egui as Areas
@@ -75,9 +74,9 @@ position_in none id = none
 position_in (some state) id = cond (state.id == id) state.pos none
 
 -- `.map(|state| state.rect())`
-abbrev pub rect_in : Held → Option Rect
-rect_in Vacant = none
-rect_in (Occupied state) = some (rect_of state)
+abbrev pub rect_in : Held AreaState → Option Rect
+rect_in None = none
+rect_in (Some state) = some (rect_of state)
 
 module _ (m : Memory) where
   -- ---- one field anew, the others as they are
