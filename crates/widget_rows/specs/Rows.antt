@@ -1,6 +1,6 @@
 -- WidgetRects of widget_rect.rs (lines 104 to 245) as one table of rows, and what is read of it. What it means in the Rust's terms is
 -- crates/widget_maps/specs/Egui.antt; a reader needs only that. Definitions only.
-use Rattle.std.specs.Prelude.{ℕ, zero, suc, ◌+◌, ◌-◌, ◌*◌, ◌/◌, min, Bool, cond, not, List, [], ◌∷◌, ◌++◌, eqb, ltb, Float, length, get_or, take, drop, set}
+use Rattle.std.specs.Prelude.{ℕ, zero, suc, ◌+◌, ◌-◌, ◌*◌, ◌/◌, min, Bool, cond, not, Option, None, Some, List, [], ◌∷◌, ◌++◌, eqb, ltb, Float, length, get_or, take, drop, set}
 use Rattle.std.specs.Int.Bits.{bit_and}
 use Rattle.std.specs.Float.{nan}
 use Rattle.emath.specs.declared.Rect.{Rect}
@@ -10,10 +10,6 @@ use Rattle.tables.specs.declared.Found.{Found}
 use Rattle.tables.specs.declared.Found.TheVariants.{At, Nothing}
 use Rattle.tables.specs.Tables.{nearest}
 use Rattle.widget_rect.specs.declared.WidgetRect.{WidgetRect}
-use Rattle.widget_rows.specs.declared.Entry.{Entry}
-use Rattle.widget_rows.specs.declared.Entry.TheVariants.{Vacant, Occupied}
-use Rattle.widget_rows.specs.declared.Listed.{Listed}
-use Rattle.widget_rows.specs.declared.Listed.TheVariants.{End, Widget}
 
 pub record Rows : Type 0 where
   pub ids : List ℕ
@@ -103,11 +99,11 @@ unfoldable pub record_or : Rows → ℕ → WidgetRect → WidgetRect
 record_or t k d = cond (ltb k (room_of t)) (record_at t k 0) d
 
 -- ---- what is held of an id, and of a layer
-abbrev pub entry_at : Rows → Found → Entry
-entry_at t (At k) = Occupied (index_at t.words k) (record_at t k 0)
-entry_at t Nothing = Vacant
+abbrev pub entry_at : Rows → Found → Option (ℕ × WidgetRect)
+entry_at t (At k) = Some (index_at t.words k, record_at t k 0)
+entry_at t Nothing = None
 
-unfoldable pub entry_of : Table → ℕ → Entry
+unfoldable pub entry_of : Table → ℕ → Option (ℕ × WidgetRect)
 entry_of t id = entry_at t.rows (found_in t id)
 
 -- the layer's list, and its first widget with the row after it: of m rows from row k on
@@ -116,9 +112,9 @@ module _ (t : Rows) (layer : LayerId) where
   list_in zero k = []
   list_in (suc m) k = cond (is_in t.words k layer) (record_at t k 1 ∷ list_in m (suc k)) (list_in m (suc k))
 
-  unfoldable pub listed_in : ℕ → ℕ → Listed
-  listed_in zero k = End
-  listed_in (suc m) k = cond (is_in t.words k layer) (Widget (suc k) (record_at t k 1)) (listed_in m (suc k))
+  unfoldable pub listed_in : ℕ → ℕ → Option (ℕ × WidgetRect)
+  listed_in zero k = None
+  listed_in (suc m) k = cond (is_in t.words k layer) (Some (suc k, record_at t k 1)) (listed_in m (suc k))
 
 unfoldable pub list_of : Table → LayerId → List WidgetRect
 list_of t layer = list_in t.rows layer (held_of t) 0
