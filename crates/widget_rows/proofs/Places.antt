@@ -76,10 +76,10 @@ module _ (t : Rows) (count room n : ℕ) (r : room ≡ room_of t) (e : n ≡ min
         let l = length-take-le n t.ids (held_fits t count room n r e).0 in
         rw l at (place_below cells (take n t.ids) id k (sym p ∙ a))
 
--- of a held row it is that row's
-pub record_held : (t : Rows) (n k : ℕ) (d w : WidgetRect) → k < n → n ≤ length t.ids → 10 * n ≤ length t.words → 16 * n ≤ length t.rects → w ≡ record_or t k d → w ≡ record_at t k 0
+-- ---- the record held by id at a row that is there
+pub record_held : (t : Rows) (k : ℕ) (d : WidgetRect) → k < length t.ids → 10 * k + 10 ≤ length t.words → 16 * k + 16 ≤ length t.rects → record_or t k d ≡ record_at t k 0
 unfolding record_or room_of
-record_held t n k d w l i x y e =
-    let a : n ≤ length t.words / 10 = omega arith in
-    let b : n ≤ length t.rects / 16 = omega arith in
-    rw (lt-ltb k (room_of t) (omega arith)) at e
+record_held t k d i w x =
+    let a : k < length t.words / 10 = omega arith in
+    let b : k < length t.rects / 16 = omega arith in
+    rw (lt-ltb k (room_of t) (omega arith))

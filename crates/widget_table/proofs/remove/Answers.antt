@@ -1,4 +1,3 @@
--- `widget_table::remove` meets its contract. Assumes nothing.
 use native.Mathlib.Omega.{arith}
 use Rattle.widget_table.proofs.Inserts.{removed}
 use Rattle.widget_table.proofs.remove.Goals as goal
