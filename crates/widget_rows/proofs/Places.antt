@@ -8,8 +8,7 @@ use lib.ListN.{length, get_or, take}
 use lib.Dec.{ltb}
 use lib.Seq.{length-take-le, take_all, take-length}
 use borrow.Author.Tests.{lt-ltb, ltb-true, ltb-false}
-use Rattle.tables.specs.declared.Found.{Found}
-use Rattle.tables.specs.declared.Found.TheVariants.{At}
+use Rattle.std.specs.Prelude.{Option, Some}
 use Rattle.tables.specs.Tables.{nearest}
 use Rattle.tables.proofs.Finding.{nearest_at}
 use Rattle.widget_rect.specs.declared.WidgetRect.{WidgetRect}
@@ -51,12 +50,12 @@ row_fits t k room r l =
     (omega arith, omega arith, omega arith)
 
 -- ---- a row that is found is held
-below : (held : List ℕ) (id k cell : ℕ) → place_by cell held id ≡ At k → k < length held
+below : (held : List ℕ) (id k cell : ℕ) → place_by cell held id ≡ Some k → k < length held
 unfolding place_by
 below held id k zero e = let z : ◌≡◌ {A = ℕ} 0 1 = cc in absurd (omega arith)
 below held id k (suc j) e = (nearest_at held (suc j) id k e).0
 
-pub place_below : (cells held : List ℕ) (id k : ℕ) → place_of cells held id ≡ At k → k < length held
+pub place_below : (cells held : List ℕ) (id k : ℕ) → place_of cells held id ≡ Some k → k < length held
 unfolding place_of
 place_below cells held id k e = below held id k (get_or cells (home_of cells id) 1) e
 
@@ -65,13 +64,13 @@ module _ (t : Rows) (count room n : ℕ) (r : room ≡ room_of t) (e : n ≡ min
   unfolding held_in
   held_is = rw (← r) e
 
-  module _ (cells : List ℕ) (id : ℕ) (f : Found) (p : f ≡ place_of cells (take n t.ids) id) where
+  module _ (cells : List ℕ) (id : ℕ) (f : Option ℕ) (p : f ≡ place_of cells (take n t.ids) id) where
     pub found_is : f ≡ found_in (record { count = count; cells = cells; rows = t }) id
     unfolding found_in
     found_is = rw (← held_is) p
 
     -- a row that is found is held, and so are its numbers
-    pub found_below : (k : ℕ) → f ≡ At k → k < n
+    pub found_below : (k : ℕ) → f ≡ Some k → k < n
     found_below k a =
         let l = length-take-le n t.ids (held_fits t count room n r e).0 in
         rw l at (place_below cells (take n t.ids) id k (sym p ∙ a))

@@ -6,8 +6,6 @@ use Rattle.std.specs.Float.{nan}
 use Rattle.emath.specs.declared.Rect.{Rect}
 use Rattle.layers.specs.declared.LayerId.{LayerId}
 use Rattle.layers.specs.Layers.{is_layer}
-use Rattle.tables.specs.declared.Found.{Found}
-use Rattle.tables.specs.declared.Found.TheVariants.{At, Nothing}
 use Rattle.tables.specs.Tables.{nearest}
 use Rattle.widget_rect.specs.declared.WidgetRect.{WidgetRect}
 
@@ -74,11 +72,11 @@ renumbered layer tail = renumbered_rows (length tail / 10) layer tail
 abbrev pub home_of : List ℕ → ℕ → ℕ
 home_of cells id = bit_and (length cells - 1) id
 
-unfoldable pub place_by : ℕ → List ℕ → ℕ → Found
-place_by zero held id = Nothing
+unfoldable pub place_by : ℕ → List ℕ → ℕ → Option ℕ
+place_by zero held id = None
 place_by (suc k) held id = nearest held (suc k) id
 
-unfoldable pub place_of : List ℕ → List ℕ → ℕ → Found
+unfoldable pub place_of : List ℕ → List ℕ → ℕ → Option ℕ
 place_of cells held id = place_by (get_or cells (home_of cells id) 1) held id
 
 unfoldable pub room_of : Rows → ℕ
@@ -91,7 +89,7 @@ held_in count t = min count (room_of t)
 abbrev pub held_of : Table → ℕ
 held_of t = held_in t.count t.rows
 
-unfoldable pub found_in : Table → ℕ → Found
+unfoldable pub found_in : Table → ℕ → Option ℕ
 found_in t id = place_of t.cells (take (held_of t) t.rows.ids) id
 
 -- the record held by id at row k, or d past the room
@@ -99,9 +97,9 @@ unfoldable pub record_or : Rows → ℕ → WidgetRect → WidgetRect
 record_or t k d = cond (ltb k (room_of t)) (record_at t k 0) d
 
 -- ---- what is held of an id, and of a layer
-abbrev pub entry_at : Rows → Found → Option (ℕ × WidgetRect)
-entry_at t (At k) = Some (index_at t.words k, record_at t k 0)
-entry_at t Nothing = None
+abbrev pub entry_at : Rows → Option ℕ → Option (ℕ × WidgetRect)
+entry_at t (Some k) = Some (index_at t.words k, record_at t k 0)
+entry_at t None = None
 
 unfoldable pub entry_of : Table → ℕ → Option (ℕ × WidgetRect)
 entry_of t id = entry_at t.rows (found_in t id)

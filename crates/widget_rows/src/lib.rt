@@ -13,7 +13,6 @@ ghost use Rattle.widget_rows.specs.Rows.{rows_in, table_in, home_of, place_of, r
 
 use emath::{Pos2, Rect};
 use layers::LayerId;
-use tables::Found;
 use widget_rect::WidgetRect;
 
 // ---- rows
@@ -136,12 +135,12 @@ pub fn home(cells: &[u64], id: u64) -> usize
 // The row of an id among the first n, or among all where they are fewer. Where the cell of its home is 0, it has none; else it is the row before the cell's,
 // or a little below, since rows that move go down.
 #[tactic(auto, using(crate::proofs::Places::by_cell, crate::proofs::Places::as_far), unfolding(crate::specs::Rows::place_of, crate::specs::Rows::place_by))]
-pub fn place(cells: &[u64], ids: &[u64], n: usize, id: u64) -> Found
+pub fn place(cells: &[u64], ids: &[u64], n: usize, id: u64) -> Option<usize>
     ensures { result ≡ place_of cells.now (take n ids.now) id }
 {
     let cell = cells.get(home(cells, id)).copied().unwrap_or(1);
     if cell == 0 {
-        return Found::Nothing;
+        return None;
     }
     tables::find(&ids[..n.min(ids.len())], cell as usize, id)
 }
@@ -181,10 +180,8 @@ pub fn get(
     ensures { result ≡ entry_of (table_in count cells.now ids.now words.now rects.now) id }
 {
     let n = count.min(room(ids, words, rects));
-    match place(cells, ids, n, id) {
-        Found::At(k) => Some((index(words, k), read_half(ids, words, rects, k, 0))),
-        Found::Nothing => None,
-    }
+    let k = place(cells, ids, n, id)?;
+    Some((index(words, k), read_half(ids, words, rects, k, 0)))
 }
 
 // The first widget of the layer's list that stands at a row or after it, with the row after its own.

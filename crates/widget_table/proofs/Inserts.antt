@@ -14,8 +14,7 @@ use Rattle.layers.specs.declared.LayerId.{LayerId}
 use Rattle.layers.specs.Layers.{is_layer}
 use Rattle.refusal.specs.Refusal.{lowest}
 use Rattle.refusal.proofs.Laws.{both_none}
-use Rattle.tables.specs.declared.Found.{Found}
-use Rattle.tables.specs.declared.Found.TheVariants.{Nothing}
+use Rattle.std.specs.Prelude.{Option, None}
 use Rattle.tables.specs.Tables.{closed, on_part}
 use Rattle.widget_rect.specs.declared.WidgetRect.{WidgetRect}
 use Rattle.widget_rows.specs.Rows.{Rows, rows_in, renumbered}
@@ -46,7 +45,7 @@ row_below n k row w new top l e = rw e (go (is_layer w.layer_id new.layer_id) to
     go false top = l
 
 -- ---- a new widget that is not refused has room
-pub room_left : (i u r n room : ℕ) (f : Found) → u ≡ full_refusal f n room → r ≡ lowest i u → r ≡ 0 → f ≡ Nothing → n < room
+pub room_left : (i u r n room : ℕ) (f : Option ℕ) → u ≡ full_refusal f n room → r ≡ lowest i u → r ≡ 0 → f ≡ None → n < room
 room_left i u r n room f ue e ok a = below (ltb n room) refl
   where
     none_full : full_refusal f n room ≡ 0

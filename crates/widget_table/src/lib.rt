@@ -9,7 +9,6 @@ ghost use Rattle.widget_table.specs.Table.{full_refusal, edges_of, look_of, shar
 
 use layers::LayerId;
 use refusal::{FULL, NONE};
-use tables::Found;
 use widget_rect::WidgetRect;
 
 #[derive(Clone, Copy)]
@@ -38,7 +37,7 @@ fn put_half(words: &mut [u64], rects: &mut [f32], k: usize, half: usize, w: Widg
 {
     let look = [w.sense, u64::from(w.enabled), u64::from(w.visible)];
     tables::put(words, 10 * k + 4 + 3 * half, &look);
-    tables::put_floats(rects, 16 * k + 8 * half, &edges(w));
+    tables::put(rects, 16 * k + 8 * half, &edges(w));
 }
 
 // Puts what they share, apart from the id.
@@ -72,15 +71,16 @@ fn remove(ids: &mut [u64], words: &mut [u64], rects: &mut [f32], n: usize, k: us
 {
     tables::close(&mut ids[k..n], 1);
     widget_rows::take_out(&mut words[10 * k..10 * n], layer);
-    tables::close_floats(&mut rects[16 * k..16 * n], 16);
+    tables::close(&mut rects[16 * k..16 * n], 16);
 }
 
-fn full_refusal(found: Found, n: usize, room: usize) -> u64
+fn full_refusal(found: Option<usize>, n: usize, room: usize) -> u64
     ensures { result ≡ full_refusal found n room }
 {
-    match found {
-        Found::At(_) => NONE,
-        Found::Nothing => { if n < room { NONE } else { FULL } }
+    if found.is_some() || n < room {
+        NONE
+    } else {
+        FULL
     }
 }
 
@@ -136,7 +136,7 @@ pub fn insert(
     }
     let home = widget_rows::home(cells, new.id);
     match found {
-        Found::At(k) => {
+        Some(k) => {
             let row = update(ids, words, rects, n, k, new, move_to_top);
             tables::put_one(cells, home, row as u64 + 1);
             Inserted {
@@ -144,7 +144,7 @@ pub fn insert(
                 count: n,
             }
         }
-        Found::Nothing => {
+        None => {
             push(ids, words, rects, n, new);
             tables::put_one(cells, home, n as u64 + 1);
             Inserted {
