@@ -11,12 +11,9 @@ use Rattle.refusal.specs.Refusal.{lowest}
 use Rattle.refusal.proofs.Laws.{both_none}
 use Rattle.layers.specs.declared.LayerId.{LayerId}
 use Rattle.layers.specs.Layers.{is_layer}
-use Rattle.tables.specs.declared.Found.{Found}
-use Rattle.tables.specs.declared.Found.TheVariants.{At, Nothing}
+use Rattle.std.specs.Prelude.{Option, None, Some}
 use Rattle.widget_rect.specs.declared.WidgetRect.{WidgetRect}
 use Rattle.widget_rect.specs.WidgetRect.{joined_of, insert_refusal}
-use Rattle.widget_rows.specs.declared.Entry.{Entry}
-use Rattle.widget_rows.specs.declared.Entry.TheVariants.{Vacant}
 use Rattle.widget_rows.specs.Rows.{Rows, Table, room_of, held_in, held_of, found_in, entry_at, entry_of, list_of, record_at}
 use Rattle.widget_table.specs.Table.{refusal_of, joined_at, full_refusal, unless_refused, insert_at, insert_of, seen_at, clear_of}
 use Rattle.widget_maps.specs.Egui.{WidgetRects, inserted_by, inserted, full_refusal as eguiFull, refusal, cleared}
@@ -66,9 +63,9 @@ module _ (limit : ℕ) (t : Table) (m : WidgetRects) (h : Holds limit t m) where
   unfolding list_of Means
   lists layer = rw all_held (list_rows_lem t.rows layer t.count ∙ h.means.1 layer)
 
-  full_same : (f : Found) (n : ℕ) → full_refusal f n limit ≡ eguiFull limit n (entry_at t.rows f)
-  full_same (At k) n = refl
-  full_same Nothing n = refl
+  full_same : (f : Option ℕ) (n : ℕ) → full_refusal f n limit ≡ eguiFull limit n (entry_at t.rows f)
+  full_same (Some k) n = refl
+  full_same None n = refl
 
   refusals : (layer : LayerId) (widget : WidgetRect) → refusal_of t layer widget ≡ refusal limit m layer widget
   unfolding refusal_of refusal entry_of Means
@@ -86,31 +83,31 @@ module _ (limit : ℕ) (t : Table) (m : WidgetRects) (h : Holds limit t m) where
     same_layer = same_layers_lem layer new.layer_id (passed (is_layer layer new.layer_id) 6 (both_none _ _ (both_none _ _ (both_none _ _ e).0).1).1)
 
     -- room for a new id
-    room_left : found_in t new.id ≡ Nothing → t.count < limit
+    room_left : found_in t new.id ≡ None → t.count < limit
     unfolding refusal_of
     room_left p = ltb-true t.count limit (passed (ltb t.count limit) 5 (rw (p, all_held, h.room) at (both_none _ _ e).1))
 
   -- ---- an insert
   module _ (big : limit < 18446744073709551615) (layer : LayerId) (new : WidgetRect) where
     -- rows t' are held, and the cell of the id's home leads to one of them
-    seen : (t' : Rows) (n k : ℕ) (m' : WidgetRects) → Alike t' t.rows → n ≤ limit → ((x : ℕ) → (new.id ≡ x → ⊥) → m.by_id x ≡ Vacant → m'.by_id x ≡ Vacant)
+    seen : (t' : Rows) (n k : ℕ) (m' : WidgetRects) → Alike t' t.rows → n ≤ limit → ((x : ℕ) → (new.id ≡ x → ⊥) → m.by_id x ≡ None → m'.by_id x ≡ None)
         → Sound (rows_to t' n) × Means (rows_to t' n) m' → Holds limit (seen_at t.cells t' n new.id k) m'
     seen t' n k m' a l v p = record { room = same_room a ∙ h.room; few = l; led = led_to t.cells new.id k m.by_id m'.by_id v h.led; sound = p.0; means = p.1 }
 
     module _ (e : refusal_of t layer new ≡ 0) (top : Bool) where
-      abbrev Step : Found → Entry → Type 0
+      abbrev Step : Option ℕ → Option (ℕ × WidgetRect) → Type 0
       Step f entry = Holds limit (insert_at t new top t.count f) (inserted_by m layer new top entry)
 
-      step : (f : Found) → found_in t new.id ≡ f → Step f (entry_at t.rows f)
+      step : (f : Option ℕ) → found_in t new.id ≡ f → Step f (entry_at t.rows f)
       unfolding found_in row_of record_at joined_at joined_of entry_of Means
-      step (At k) p =
+      step (Some k) p =
           let (l, q) = found_at t.rows t.count fits.ids t.cells new.id k (rw all_held at p) in
           let u = updated t.rows t.count k l fits (joined_at t.rows k new) (record { id = refl; parent = refl; layer = refl }) m layer new h.sound h.means (sym q) (same_layer layer new e) (omega arith) top in
           seen _ t.count _ _ u.0 h.few (λ x d v. known_vacant m layer new x d v top _ _) u.1
-      step Nothing p =
+      step None p =
           let l = room_left layer new e p in
           let f : Fits t.rows (suc t.count) = room_fits (omega arith) in
-          let v : entry_rows (rows_to t.rows t.count) new.id ≡ Vacant = h.means.0 new.id ∙ sym (entries new.id) ∙ ap (entry_at t.rows) p in
+          let v : entry_rows (rows_to t.rows t.count) new.id ≡ None = h.means.0 new.id ∙ sym (entries new.id) ∙ ap (entry_at t.rows) p in
           let r = rows_length t.rows t.count in
           seen _ (t.count + 1) _ _ (pushed_alike t.rows t.count new f) (omega arith) (new_vacant m layer new)
           (rw (add-one, pushed_rows t.rows t.count new f) (pushed (rows_to t.rows t.count) m layer new h.sound h.means v (same_layer layer new e) (omega arith)))

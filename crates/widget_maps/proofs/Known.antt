@@ -9,8 +9,7 @@ use lib.Seq.{set_at}
 use Rattle.layers.specs.declared.LayerId.{LayerId}
 use Rattle.layers.specs.Layers.{is_layer}
 use Rattle.widget_rect.specs.declared.WidgetRect.{WidgetRect}
-use Rattle.widget_rows.specs.declared.Entry.{Entry}
-use Rattle.widget_rows.specs.declared.Entry.TheVariants.{Occupied}
+use Rattle.std.specs.Prelude.{Option, Some}
 use Rattle.widget_maps.specs.Egui.{WidgetRects, with_list, with_entry, known_widget}
 use Rattle.widget_maps.proofs.Row.{Row, with_held, with_listed}
 use Rattle.widget_maps.proofs.Meaning.{entry_rows, list_rows, Means, next_place, InOrder, Sound}
@@ -25,7 +24,7 @@ module _ (rows : List Row) (m : WidgetRects) (pre : List Row) (r : Row) (post : 
   unfolding Means list_rows
   list_of k = sym (means.1 k) ∙ ap (λ (l : List Row). list_rows l k) law ∙ list_append pre (r ∷ post) k
 
-  pub entry_of : (x : ℕ) → m.by_id x ≡ cond (eqb r.held.id x) (Occupied r.index r.held) (entry_rows (pre ++ post) x)
+  pub entry_of : (x : ℕ) → m.by_id x ≡ cond (eqb r.held.id x) (Some (r.index, r.held)) (entry_rows (pre ++ post) x)
   unfolding Means
   entry_of x = sym (means.0 x) ∙ ap (λ (l : List Row). entry_rows l x) law ∙ entry_at pre r post (none_before pre r post sound) x
 
@@ -33,7 +32,7 @@ module _ (rows : List Row) (m : WidgetRects) (pre : List Row) (r : Row) (post : 
   replaced : (w v : WidgetRect) → w.id ≡ r.held.id → w.layer_id ≡ r.held.layer_id → v.id ≡ r.held.id → v.layer_id ≡ r.held.layer_id → (id : ℕ) → id ≡ r.held.id
       → (lists : LayerId → List WidgetRect) → ((k : LayerId) → list_rows pre k ++ cond (is_layer r.held.layer_id k) (v ∷ list_rows post k) (list_rows post k) ≡ lists k)
       → Sound (pre ++ record { index = r.index; held = w; listed = v } ∷ post)
-      × Means (pre ++ record { index = r.index; held = w; listed = v } ∷ post) (record { by_layer = lists; by_id = with_entry m.by_id id (Occupied r.index w); len = m.len })
+      × Means (pre ++ record { index = r.index; held = w; listed = v } ∷ post) (record { by_layer = lists; by_id = with_entry m.by_id id (Some (r.index, w)); len = m.len })
   unfolding Means InOrder list_rows
   replaced w v w-id w-layer v-id v-layer id new-id lists f =
       let d = one_less_lem pre r post sound.distinct in (
@@ -54,16 +53,16 @@ module _ (rows : List Row) (m : WidgetRects) (pre : List Row) (r : Row) (post : 
         subst (λ (k : LayerId). InOrder l (next_place k l j) post) (sym w-layer) o.1,
       )
 
-      twice : (t : Bool) (e : Entry) → cond t (Occupied r.index w) e ≡ cond t (Occupied r.index w) (cond t (Occupied r.index r.held) e)
+      twice : (t : Bool) (e : Option (ℕ × WidgetRect)) → cond t (Some (r.index, w)) e ≡ cond t (Some (r.index, w)) (cond t (Some (r.index, r.held)) e)
       twice true e = refl
       twice false e = refl
 
-      entries : (x : ℕ) → entry_rows (pre ++ r' ∷ post) x ≡ with_entry m.by_id id (Occupied r.index w) x
+      entries : (x : ℕ) → entry_rows (pre ++ r' ∷ post) x ≡ with_entry m.by_id id (Some (r.index, w)) x
       entries x =
           entry_at pre r' post (rw w-id (none_before pre r post sound)) x
-          ∙ ap (λ (i : ℕ). cond (eqb i x) (Occupied r.index w) (entry_rows (pre ++ post) x)) (w-id ∙ sym new-id)
+          ∙ ap (λ (i : ℕ). cond (eqb i x) (Some (r.index, w)) (entry_rows (pre ++ post) x)) (w-id ∙ sym new-id)
           ∙ twice (eqb id x) (entry_rows (pre ++ post) x)
-          ∙ ap (cond (eqb id x) (Occupied r.index w)) (rw new-id (sym (entry_of x)))
+          ∙ ap (cond (eqb id x) (Some (r.index, w))) (rw new-id (sym (entry_of x)))
 
 -- ---- of the rows before it, itself and the rows after it; w is the joined record, new the call's
 module _ (rows : List Row) (m : WidgetRects) (layer : LayerId) (w new : WidgetRect) (pre : List Row) (r : Row) (post : List Row) (law : rows ≡ pre ++ r ∷ post) (s : Sound rows) (means : Means rows m)

@@ -11,8 +11,7 @@ use borrow.Author.Tests.{eqb-true, eq-eqb}
 use Rattle.layers.specs.declared.LayerId.{LayerId}
 use Rattle.layers.specs.Layers.{is_layer}
 use Rattle.widget_rect.specs.declared.WidgetRect.{WidgetRect}
-use Rattle.widget_rows.specs.declared.Entry.{Entry}
-use Rattle.widget_rows.specs.declared.Entry.TheVariants.{Vacant, Occupied}
+use Rattle.std.specs.Prelude.{Option, None, Some}
 use Rattle.widget_maps.proofs.Row.{Row, next_from}
 use Rattle.widget_maps.proofs.Meaning.{entry_rows, list_rows, times, StandsAt, next_place, InOrder, Sound}
 
@@ -42,9 +41,9 @@ layers_turned a b = go (is_layer a b) (is_layer b a) (back a b) (back b a)
     go false false f g = refl
 
 -- ---- what is held by an id
-abbrev pub or_else : Entry → Entry → Entry
-or_else Vacant e = e
-or_else (Occupied i w) e = Occupied i w
+abbrev pub or_else : Option (ℕ × WidgetRect) → Option (ℕ × WidgetRect) → Option (ℕ × WidgetRect)
+or_else None e = e
+or_else (Some (i, w)) e = Some (i, w)
 
 pub entry_append : (a b : List Row) (x : ℕ) → entry_rows (a ++ b) x ≡ or_else (entry_rows a x) (entry_rows b x)
 unfolding entry_rows
@@ -52,30 +51,30 @@ entry_append [] b x = refl
 entry_append (r ∷ a) b x = go (eqb r.held.id x) (entry_append a b x)
   where
     go : (t : Bool) → entry_rows (a ++ b) x ≡ or_else (entry_rows a x) (entry_rows b x)
-        → cond t (Occupied r.index r.held) (entry_rows (a ++ b) x) ≡ or_else (cond t (Occupied r.index r.held) (entry_rows a x)) (entry_rows b x)
+        → cond t (Some (r.index, r.held)) (entry_rows (a ++ b) x) ≡ or_else (cond t (Some (r.index, r.held)) (entry_rows a x)) (entry_rows b x)
     go true h = refl
     go false h = h
 
 -- how often an entry holds an id
-abbrev pub counted : Entry → ℕ
-counted Vacant = 0
-counted (Occupied i w) = 1
+abbrev pub counted : Option (ℕ × WidgetRect) → ℕ
+counted None = 0
+counted (Some (i, w)) = 1
 
 pub counted_times : (rows : List Row) (x : ℕ) → counted (entry_rows rows x) ≤ times rows x
 unfolding entry_rows times
 counted_times [] x = omega arith
 counted_times (r ∷ rows) x = go (eqb r.held.id x) (counted_times rows x)
   where
-    go : (t : Bool) → counted (entry_rows rows x) ≤ times rows x → counted (cond t (Occupied r.index r.held) (entry_rows rows x)) ≤ cond t 1 0 + times rows x
+    go : (t : Bool) → counted (entry_rows rows x) ≤ times rows x → counted (cond t (Some (r.index, r.held)) (entry_rows rows x)) ≤ cond t 1 0 + times rows x
     go true h = omega arith
     go false h = omega arith
 
-pub vacant_times : (rows : List Row) (x : ℕ) → entry_rows rows x ≡ Vacant → times rows x ≡ 0
+pub vacant_times : (rows : List Row) (x : ℕ) → entry_rows rows x ≡ None → times rows x ≡ 0
 unfolding entry_rows times
 vacant_times [] x e = refl
 vacant_times (r ∷ rows) x e = go (eqb r.held.id x) (vacant_times rows x) e
   where
-    go : (t : Bool) → (entry_rows rows x ≡ Vacant → times rows x ≡ 0) → cond t (Occupied r.index r.held) (entry_rows rows x) ≡ Vacant → cond t 1 0 + times rows x ≡ 0
+    go : (t : Bool) → (entry_rows rows x ≡ None → times rows x ≡ 0) → cond t (Some (r.index, r.held)) (entry_rows rows x) ≡ None → cond t 1 0 + times rows x ≡ 0
     go true f h = cc
     go false f h = omega (arith, f h)
 
@@ -90,17 +89,17 @@ module _ (a : List Row) (r : Row) (b : List Row) where
   unfolding times
   times_at x = omega (arith, times_append a (r ∷ b) x, times_append a b x)
 
-  pub entry_at : times a r.held.id ≡ 0 → (x : ℕ) → entry_rows (a ++ r ∷ b) x ≡ cond (eqb r.held.id x) (Occupied r.index r.held) (entry_rows (a ++ b) x)
+  pub entry_at : times a r.held.id ≡ 0 → (x : ℕ) → entry_rows (a ++ r ∷ b) x ≡ cond (eqb r.held.id x) (Some (r.index, r.held)) (entry_rows (a ++ b) x)
   unfolding entry_rows
-  entry_at h x = entry_append a (r ∷ b) x ∙ go (eqb r.held.id x) (entry_rows a x) none ∙ ap (cond (eqb r.held.id x) (Occupied r.index r.held)) (sym (entry_append a b x))
+  entry_at h x = entry_append a (r ∷ b) x ∙ go (eqb r.held.id x) (entry_rows a x) none ∙ ap (cond (eqb r.held.id x) (Some (r.index, r.held))) (sym (entry_append a b x))
     where
       none : eqb r.held.id x ≡ true → counted (entry_rows a x) ≡ 0
       none e = rw (← eqb-true r.held.id x e) (omega (arith, counted_times a r.held.id))
 
-      go : (t : Bool) (e : Entry) → (t ≡ true → counted e ≡ 0)
-          → or_else e (cond t (Occupied r.index r.held) (entry_rows b x)) ≡ cond t (Occupied r.index r.held) (or_else e (entry_rows b x))
-      go true Vacant f = refl
-      go true (Occupied i w) f = absurd (omega (arith, f refl))
+      go : (t : Bool) (e : Option (ℕ × WidgetRect)) → (t ≡ true → counted e ≡ 0)
+          → or_else e (cond t (Some (r.index, r.held)) (entry_rows b x)) ≡ cond t (Some (r.index, r.held)) (or_else e (entry_rows b x))
+      go true None f = refl
+      go true (Some (i, w)) f = absurd (omega (arith, f refl))
       go false e f = refl
 
   pub one_more_lem : times (a ++ b) r.held.id ≡ 0 → ((x : ℕ) → times (a ++ b) x ≤ 1) → (x : ℕ) → times (a ++ r ∷ b) x ≤ 1
@@ -170,7 +169,7 @@ module _ (a : List Row) (r : Row) (b : List Row) (s : Sound (a ++ r ∷ b)) wher
   pub none_before : times a r.held.id ≡ 0
   none_before = omega (arith, times_append a b r.held.id, (one_less_lem a r b s.distinct).0)
 
-pub known_entry : (rows a : List Row) (r : Row) (b : List Row) → Sound rows → rows ≡ a ++ r ∷ b → entry_rows rows r.held.id ≡ Occupied r.index r.held
+pub known_entry : (rows a : List Row) (r : Row) (b : List Row) → Sound rows → rows ≡ a ++ r ∷ b → entry_rows rows r.held.id ≡ Some (r.index, r.held)
 known_entry rows a r b s e =
     ap (λ (k : List Row). entry_rows k r.held.id) e
     ∙ entry_at a r b (none_before a r b (subst Sound e s)) r.held.id

@@ -8,15 +8,14 @@ use lib.ListN.{length}
 use Rattle.layers.specs.declared.LayerId.{LayerId}
 use Rattle.layers.specs.Layers.{is_layer}
 use Rattle.widget_rect.specs.declared.WidgetRect.{WidgetRect}
-use Rattle.widget_rows.specs.declared.Entry.{Entry}
-use Rattle.widget_rows.specs.declared.Entry.TheVariants.{Vacant, Occupied}
+use Rattle.std.specs.Prelude.{Option, None, Some}
 use Rattle.widget_maps.specs.Egui.{WidgetRects}
 use Rattle.widget_maps.proofs.Row.{Row}
 
 -- what is held by an id: that of the first row with it
-unfoldable pub entry_rows : List Row → ℕ → Entry
-entry_rows [] id = Vacant
-entry_rows (r ∷ rows) id = cond (eqb r.held.id id) (Occupied r.index r.held) (entry_rows rows id)
+unfoldable pub entry_rows : List Row → ℕ → Option (ℕ × WidgetRect)
+entry_rows [] id = None
+entry_rows (r ∷ rows) id = cond (eqb r.held.id id) (Some (r.index, r.held)) (entry_rows rows id)
 
 -- the list of a layer: the listed records of its rows, in their order
 unfoldable pub list_rows : List Row → LayerId → List WidgetRect

@@ -12,8 +12,7 @@ use borrow.Author.Tests.{eqb-true}
 use Rattle.layers.specs.declared.LayerId.{LayerId}
 use Rattle.layers.specs.Layers.{is_layer}
 use Rattle.widget_rect.specs.declared.WidgetRect.{WidgetRect}
-use Rattle.widget_rows.specs.declared.Entry.{Entry}
-use Rattle.widget_rows.specs.declared.Entry.TheVariants.{Vacant, Occupied}
+use Rattle.std.specs.Prelude.{Option, None, Some}
 use Rattle.widget_maps.specs.Egui.{WidgetRects, with_entry, with_idx, removed, shifted, new_widget, known_widget}
 use Rattle.widget_maps.proofs.Row.{Row, lowered}
 use Rattle.widget_maps.proofs.Meaning.{entry_rows, list_rows, Means, times, next_place, InOrder, Sound}
@@ -52,12 +51,12 @@ module _ (rows : List Row) (m : WidgetRects) (layer : LayerId) (w new : WidgetRe
     in_order = λ k. in_order_with k pre (r ∷ post) (map (lowered l) post) 0 (λ j e o. in_order_lowered l k post _ j (ap (λ (a : LayerId). next_place a k j) (sym w-layer)) o.1) (good.in_order k);
   }
 
-  base_fresh : entry_rows base w.id ≡ Vacant
+  base_fresh : entry_rows base w.id ≡ None
   base_fresh = go (entry_rows base w.id) (omega (arith, counted_times base w.id, base_times w.id, ap (times (pre ++ post)) w-id, (one_less_lem pre r post good.distinct).0))
     where
-      go : (e : Entry) → counted e ≡ 0 → e ≡ Vacant
-      go Vacant h = refl
-      go (Occupied i v) h = absurd (omega arith)
+      go : (e : Option (ℕ × WidgetRect)) → counted e ≡ 0 → e ≡ None
+      go None h = refl
+      go (Some (i, v)) h = absurd (omega arith)
 
   base_length : suc (length base) ≡ length rows
   base_length = rw law (simp (length-append, length-map) (omega arith))
@@ -96,27 +95,27 @@ module _ (rows : List Row) (m : WidgetRects) (layer : LayerId) (w new : WidgetRe
       next : next_place r.held.layer_id l (0 + length (list_rows pre l)) ≡ suc r.index
       next = rw (← w-layer, layer_itself) (omega (arith, place))
 
-  ids : (n x : ℕ) → cond (eqb w.id x) (Occupied (length (list_rows base l)) w) (entry_rows base x) ≡ shifted r.index (list_rows post l ++ w ∷ []) (with_entry m.by_id w.id (Occupied n w)) x
+  ids : (n x : ℕ) → cond (eqb w.id x) (Some (length (list_rows base l), w)) (entry_rows base x) ≡ shifted r.index (list_rows post l ++ w ∷ []) (with_entry m.by_id w.id (Some (n, w))) x
   unfolding placed
   ids n x =
-      go (eqb w.id x) none (entry_of rows m pre r post law s means x ∙ ap (λ (y : ℕ). cond (eqb y x) (Occupied r.index r.held) (entry_rows (pre ++ post) x)) (sym w-id))
+      go (eqb w.id x) none (entry_of rows m pre r post law s means x ∙ ap (λ (y : ℕ). cond (eqb y x) (Some (r.index, r.held)) (entry_rows (pre ++ post) x)) (sym w-id))
       ∙ sym (shifted_placed r.index (list_rows post l ++ w ∷ []) put x ∙ placed_append r.index (list_rows post l) (w ∷ []) x (put x))
     where
-      put : ℕ → Entry
-      put = with_entry m.by_id w.id (Occupied n w)
+      put : ℕ → Option (ℕ × WidgetRect)
+      put = with_entry m.by_id w.id (Some (n, w))
 
-      run : Entry → Entry
+      run : Option (ℕ × WidgetRect) → Option (ℕ × WidgetRect)
       run = placed r.index (list_rows post l) x
 
       none : eqb w.id x ≡ true → times post x ≡ 0
       none t = omega (arith, times_append pre post x, ap (times (pre ++ post)) (sym (eqb-true w.id x t) ∙ w-id), (one_less_lem pre r post good.distinct).0)
 
-      go : (t : Bool) → (t ≡ true → times post x ≡ 0) → m.by_id x ≡ cond t (Occupied r.index r.held) (entry_rows (pre ++ post) x)
-          → cond t (Occupied (length (list_rows base l)) w) (entry_rows base x)
-          ≡ cond t (with_idx (r.index + length (list_rows post l)) (run (cond t (Occupied n w) (m.by_id x)))) (run (cond t (Occupied n w) (m.by_id x)))
+      go : (t : Bool) → (t ≡ true → times post x ≡ 0) → m.by_id x ≡ cond t (Some (r.index, r.held)) (entry_rows (pre ++ post) x)
+          → cond t (Some (length (list_rows base l), w)) (entry_rows base x)
+          ≡ cond t (with_idx (r.index + length (list_rows post l)) (run (cond t (Some (n, w)) (m.by_id x)))) (run (cond t (Some (n, w)) (m.by_id x)))
       go true f h =
-          ap (λ (i : ℕ). Occupied i w) (ap length (base_list l) ∙ length-append (list_rows pre l) (list_rows post l) ∙ omega (arith, place))
-          ∙ ap (with_idx (r.index + length (list_rows post l))) (entry_lowered l post x r.index (Occupied n w) (omega (arith, f refl)) after)
+          ap (λ (i : ℕ). Some (i, w)) (ap length (base_list l) ∙ length-append (list_rows pre l) (list_rows post l) ∙ omega (arith, place))
+          ∙ ap (with_idx (r.index + length (list_rows post l))) (entry_lowered l post x r.index (Some (n, w)) (omega (arith, f refl)) after)
       go false f h =
           entry_append pre (map (lowered l) post) x
           ∙ entry_lowered l post x r.index (entry_rows pre x) (omega (arith, counted_times pre x, times_append pre post x, (one_less_lem pre r post good.distinct).1 x)) after

@@ -10,7 +10,7 @@ use lib.ListN.{length, length-append}
 use Rattle.layers.specs.declared.LayerId.{LayerId}
 use Rattle.layers.specs.Layers.{is_layer}
 use Rattle.widget_rect.specs.declared.WidgetRect.{WidgetRect}
-use Rattle.widget_rows.specs.declared.Entry.TheVariants.{Vacant, Occupied}
+use Rattle.std.specs.Prelude.{None, Some}
 use Rattle.widget_maps.specs.Egui.{WidgetRects, new_widget, cleared}
 use Rattle.widget_maps.proofs.Row.{Row, new_row, next_from}
 use Rattle.widget_maps.proofs.Meaning.{entry_rows, list_rows, Means, times, InOrder, Sound}
@@ -27,7 +27,7 @@ row_on rows w = new_row (next_from 0 rows w.layer_id) w
 abbrev pub pushed_on : List Row → WidgetRect → List Row
 pushed_on rows w = rows ++ row_on rows w ∷ []
 
-module _ (rows : List Row) (m : WidgetRects) (layer : LayerId) (w : WidgetRect) (s : Sound rows) (means : Means rows m) (fresh : entry_rows rows w.id ≡ Vacant)
+module _ (rows : List Row) (m : WidgetRects) (layer : LayerId) (w : WidgetRect) (s : Sound rows) (means : Means rows m) (fresh : entry_rows rows w.id ≡ None)
     (l : layer ≡ w.layer_id) (room : length rows < 18446744073709551615) where
   next : next_from 0 rows w.layer_id ≡ length (list_rows rows w.layer_id)
   next = next_is w.layer_id rows 0 (omega arith) (s.in_order w.layer_id) ∙ zero-add _
@@ -50,7 +50,7 @@ module _ (rows : List Row) (m : WidgetRects) (layer : LayerId) (w : WidgetRect) 
       place = next ∙ ap (λ (k : LayerId). length (list_rows rows k)) (sym l) ∙ ap length (means.1 layer)
 
       ids : (x : ℕ) → entry_rows (pushed_on rows w) x ≡ (new_widget m layer w).by_id x
-      ids x = entry_at rows (row_on rows w) [] (vacant_times rows w.id fresh) x ∙ (λ i. cond (eqb w.id x) (Occupied (place i) w) ((ap (λ (k : List Row). entry_rows k x) (append-nil rows) ∙ means.0 x) i))
+      ids x = entry_at rows (row_on rows w) [] (vacant_times rows w.id fresh) x ∙ (λ i. cond (eqb w.id x) (Some (place i, w)) ((ap (λ (k : List Row). entry_rows k x) (append-nil rows) ∙ means.0 x) i))
 
       go : (k : LayerId) (t : Bool) → (t ≡ true → w.layer_id ≡ k) → list_rows rows k ++ cond t (w ∷ []) [] ≡ cond t (m.by_layer w.layer_id ++ w ∷ []) (m.by_layer k)
       go k true f = ap (λ (ws : List WidgetRect). ws ++ w ∷ []) (means.1 k ∙ ap m.by_layer (sym (f refl)))

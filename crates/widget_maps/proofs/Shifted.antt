@@ -10,19 +10,18 @@ use borrow.Author.Tests.{eqb-true}
 use Rattle.layers.specs.declared.LayerId.{LayerId}
 use Rattle.layers.specs.Layers.{is_layer}
 use Rattle.widget_rect.specs.declared.WidgetRect.{WidgetRect}
-use Rattle.widget_rows.specs.declared.Entry.{Entry}
-use Rattle.widget_rows.specs.declared.Entry.TheVariants.{Vacant, Occupied}
+use Rattle.std.specs.Prelude.{Option, None, Some}
 use Rattle.widget_maps.specs.Egui.{with_entry, with_idx, shifted}
 use Rattle.widget_maps.proofs.Row.{Row, lowered}
 use Rattle.widget_maps.proofs.Meaning.{entry_rows, list_rows, times, StandsAt, next_place, InOrder}
 use Rattle.widget_maps.proofs.Laws.{same_layers_lem, layers_turned, or_else, counted}
 
 -- ---- the loop, for one id
-unfoldable pub placed : ℕ → List WidgetRect → ℕ → Entry → Entry
+unfoldable pub placed : ℕ → List WidgetRect → ℕ → Option (ℕ × WidgetRect) → Option (ℕ × WidgetRect)
 placed i [] x e = e
 placed i (w ∷ ws) x e = placed (suc i) ws x (cond (eqb w.id x) (with_idx i e) e)
 
-pub shifted_placed : (i : ℕ) (ws : List WidgetRect) (by_id : ℕ → Entry) (x : ℕ) → shifted i ws by_id x ≡ placed i ws x (by_id x)
+pub shifted_placed : (i : ℕ) (ws : List WidgetRect) (by_id : ℕ → Option (ℕ × WidgetRect)) (x : ℕ) → shifted i ws by_id x ≡ placed i ws x (by_id x)
 unfolding shifted placed
 shifted_placed i [] by_id x = refl
 shifted_placed i (w ∷ ws) by_id x = shifted_placed (suc i) ws (with_entry by_id w.id (with_idx i (by_id w.id))) x ∙ ap (placed (suc i) ws x) (go (eqb w.id x) (eqb-true w.id x))
@@ -31,7 +30,7 @@ shifted_placed i (w ∷ ws) by_id x = shifted_placed (suc i) ws (with_entry by_i
     go true f = ap (λ (y : ℕ). with_idx i (by_id y)) (f refl)
     go false f = refl
 
-pub placed_append : (i : ℕ) (a b : List WidgetRect) (x : ℕ) (e : Entry) → placed i (a ++ b) x e ≡ placed (i + length a) b x (placed i a x e)
+pub placed_append : (i : ℕ) (a b : List WidgetRect) (x : ℕ) (e : Option (ℕ × WidgetRect)) → placed i (a ++ b) x e ≡ placed (i + length a) b x (placed i a x e)
 unfolding placed
 placed_append i [] b x e = ap (λ (j : ℕ). placed j b x e) (omega arith)
 placed_append i (w ∷ a) b x e =
@@ -74,7 +73,7 @@ module _ (l : LayerId) where
       go false false h = h
 
   -- an id that is held by e, or else among the rows
-  pub entry_lowered : (rows : List Row) (x i : ℕ) (e : Entry) → counted e + times rows x ≤ 1 → InOrder l (suc i) rows
+  pub entry_lowered : (rows : List Row) (x i : ℕ) (e : Option (ℕ × WidgetRect)) → counted e + times rows x ≤ 1 → InOrder l (suc i) rows
       → or_else e (entry_rows (map (lowered l) rows) x) ≡ placed i (list_rows rows l) x (or_else e (entry_rows rows x))
   unfolding entry_rows list_rows times InOrder lowered placed
   entry_lowered [] x i e h o = refl
@@ -83,19 +82,19 @@ module _ (l : LayerId) where
       rest : List WidgetRect
       rest = list_rows rows l
 
-      go : (s t : Bool) (e : Entry)
-          → ((i : ℕ) (e : Entry) → counted e + times rows x ≤ 1 → InOrder l (suc i) rows → or_else e (entry_rows (map (lowered l) rows) x) ≡ placed i rest x (or_else e (entry_rows rows x)))
+      go : (s t : Bool) (e : Option (ℕ × WidgetRect))
+          → ((i : ℕ) (e : Option (ℕ × WidgetRect)) → counted e + times rows x ≤ 1 → InOrder l (suc i) rows → or_else e (entry_rows (map (lowered l) rows) x) ≡ placed i rest x (or_else e (entry_rows rows x)))
           → counted e + (cond t 1 0 + times rows x) ≤ 1 → (s ≡ true → StandsAt (suc i) r) → (s ≡ true → eqb r.listed.id x ≡ t) → InOrder l (cond s (suc (suc i)) (suc i)) rows
-          → or_else e (cond t (Occupied (cond s (r.index - 1) r.index) r.held) (entry_rows (map (lowered l) rows) x))
-          ≡ placed i (cond s (r.listed ∷ rest) rest) x (or_else e (cond t (Occupied r.index r.held) (entry_rows rows x)))
-      go true true Vacant f h p q o =
-          ap (λ (n : ℕ). Occupied n r.held) (omega (arith, (p refl).place))
-          ∙ f (suc i) (Occupied i r.held) (omega arith) o
-          ∙ ap (λ (u : Bool). placed (suc i) rest x (cond u (Occupied i r.held) (Occupied r.index r.held))) (sym (q refl))
-      go true true (Occupied n w) f h p q o = absurd (omega arith)
+          → or_else e (cond t (Some (cond s (r.index - 1) r.index, r.held)) (entry_rows (map (lowered l) rows) x))
+          ≡ placed i (cond s (r.listed ∷ rest) rest) x (or_else e (cond t (Some (r.index, r.held)) (entry_rows rows x)))
+      go true true None f h p q o =
+          ap (λ (n : ℕ). Some (n, r.held)) (omega (arith, (p refl).place))
+          ∙ f (suc i) (Some (i, r.held)) (omega arith) o
+          ∙ ap (λ (u : Bool). placed (suc i) rest x (cond u (Some (i, r.held)) (Some (r.index, r.held)))) (sym (q refl))
+      go true true (Some (n, w)) f h p q o = absurd (omega arith)
       go true false e f h p q o =
           let e' = or_else e (entry_rows rows x) in
           f (suc i) e (omega arith) o ∙ ap (λ (u : Bool). placed (suc i) rest x (cond u (with_idx i e') e')) (sym (q refl))
-      go false true Vacant f h p q o = f i (Occupied r.index r.held) (omega arith) o
-      go false true (Occupied n w) f h p q o = absurd (omega arith)
+      go false true None f h p q o = f i (Some (r.index, r.held)) (omega arith) o
+      go false true (Some (n, w)) f h p q o = absurd (omega arith)
       go false false e f h p q o = f i e (omega arith) o

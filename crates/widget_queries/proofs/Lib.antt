@@ -1,4 +1,3 @@
 -- Laws that the proofs share.
-pub mod Answers
 pub mod Focusable
 pub mod Rest

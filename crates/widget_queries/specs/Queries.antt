@@ -1,10 +1,8 @@
 -- The queries of WidgetRects of widget_rect.rs (lines 104 to 245) over the tables of crate `widget_rows`. Definitions only.
-use Rattle.std.specs.Prelude.{ℕ, true, false, cond, List, [], ◌∷◌}
+use Rattle.std.specs.Prelude.{ℕ, true, false, cond, Option, None, Some, List, [], ◌∷◌}
 use Rattle.refusal.specs.Refusal.{id_refusal, answered}
 use Rattle.widget_rect.specs.declared.WidgetRect.{WidgetRect}
 use Rattle.widget_rect.specs.WidgetRect.{is_focusable}
-use Rattle.widget_rows.specs.declared.Entry.{Entry}
-use Rattle.widget_rows.specs.declared.Entry.TheVariants.{Vacant, Occupied}
 use Rattle.widget_rows.specs.Rows.{Table, entry_of}
 use Rattle.widget_queries.specs.declared.OrderAnswer.{OrderAnswer}
 use Rattle.widget_queries.specs.declared.OrderAnswer.TheVariants.{Nothing as NoOrder, Is as OrderIs, Refused as OrderRefused}
@@ -14,25 +12,25 @@ use Rattle.widget_queries.specs.declared.ContainsAnswer.{ContainsAnswer}
 use Rattle.widget_queries.specs.declared.ContainsAnswer.TheVariants.{Is as ContainsIs, Refused as ContainsRefused}
 
 -- ---- `order`, `get`, `contains` (lines 137 to 149), from what by_id holds; id 0 is refused
-abbrev pub order_in : Entry → OrderAnswer
-order_in Vacant = NoOrder
-order_in (Occupied idx w) = OrderIs w.layer_id idx
+abbrev pub order_in : Option (ℕ × WidgetRect) → OrderAnswer
+order_in None = NoOrder
+order_in (Some (idx, w)) = OrderIs w.layer_id idx
 
-abbrev pub widget_in : Entry → WidgetAnswer
-widget_in Vacant = NoWidget
-widget_in (Occupied idx w) = WidgetIs w
+abbrev pub widget_in : Option (ℕ × WidgetRect) → WidgetAnswer
+widget_in None = NoWidget
+widget_in (Some (idx, w)) = WidgetIs w
 
-abbrev pub contains_in : Entry → ContainsAnswer
-contains_in Vacant = ContainsIs false
-contains_in (Occupied idx w) = ContainsIs true
+abbrev pub contains_in : Option (ℕ × WidgetRect) → ContainsAnswer
+contains_in None = ContainsIs false
+contains_in (Some (idx, w)) = ContainsIs true
 
-abbrev pub order_of : ℕ → Entry → OrderAnswer
+abbrev pub order_of : ℕ → Option (ℕ × WidgetRect) → OrderAnswer
 order_of id = answered order_in OrderRefused (id_refusal id)
 
-abbrev pub widget_of : ℕ → Entry → WidgetAnswer
+abbrev pub widget_of : ℕ → Option (ℕ × WidgetRect) → WidgetAnswer
 widget_of id = answered widget_in WidgetRefused (id_refusal id)
 
-abbrev pub contains_of : ℕ → Entry → ContainsAnswer
+abbrev pub contains_of : ℕ → Option (ℕ × WidgetRect) → ContainsAnswer
 contains_of id = answered contains_in ContainsRefused (id_refusal id)
 
 unfoldable pub order_answer : Table → ℕ → OrderAnswer

@@ -10,7 +10,6 @@ ghost use Rattle.widget_queries.specs.Queries.{order_answer, widget_answer, cont
 use layers::LayerId;
 use refusal::NONE;
 use widget_rect::WidgetRect;
-use widget_rows::{Entry, Listed};
 
 // In which layer, and at which place of its list.
 #[derive(Clone, Copy)]
@@ -33,6 +32,7 @@ pub enum ContainsAnswer {
     Refused(u64),
 }
 
+#[tactic(auto, unfolding(crate::specs::Queries::order_answer))]
 pub fn order(
     cells: &[u64],
     ids: &[u64],
@@ -48,15 +48,13 @@ pub fn order(
         return OrderAnswer::Refused(refusal);
     }
     match widget_rows::get(cells, ids, words, rects, count, id) {
-        Entry::Vacant => OrderAnswer::Nothing,
-        Entry::Occupied(index, w) => {
-            let layer_id = w.layer_id;
-            OrderAnswer::Is(layer_id, index)
-        }
+        Some((index, w)) => OrderAnswer::Is(w.layer_id, index),
+        None => OrderAnswer::Nothing,
     }
 }
 
 // egui's `get`.
+#[tactic(auto, unfolding(crate::specs::Queries::widget_answer))]
 pub fn widget(
     cells: &[u64],
     ids: &[u64],
@@ -72,11 +70,12 @@ pub fn widget(
         return WidgetAnswer::Refused(refusal);
     }
     match widget_rows::get(cells, ids, words, rects, count, id) {
-        Entry::Vacant => WidgetAnswer::Nothing,
-        Entry::Occupied(_, w) => WidgetAnswer::Is(w),
+        Some((_, w)) => WidgetAnswer::Is(w),
+        None => WidgetAnswer::Nothing,
     }
 }
 
+#[tactic(auto, unfolding(crate::specs::Queries::contains_answer))]
 pub fn contains(
     cells: &[u64],
     ids: &[u64],
@@ -91,10 +90,7 @@ pub fn contains(
     if refusal != NONE {
         return ContainsAnswer::Refused(refusal);
     }
-    match widget_rows::get(cells, ids, words, rects, count, id) {
-        Entry::Vacant => ContainsAnswer::Is(false),
-        Entry::Occupied(_, _) => ContainsAnswer::Is(true),
-    }
+    ContainsAnswer::Is(widget_rows::get(cells, ids, words, rects, count, id).is_some())
 }
 
 // Puts the widget's id at place n, if it is focusable; the place after it.
@@ -104,9 +100,10 @@ fn put_focusable(out: &mut [u64], n: usize, w: WidgetRect) -> usize
 {
     if w.is_focusable() {
         tables::put_one(out, n, w.id);
-        return n + 1;
+        n + 1
+    } else {
+        n
     }
-    n
 }
 
 // The ids of the focusable widgets of a layer, in the order of its list, on the first places of `out`, as far as they fit; how many they are. It refuses no
@@ -123,14 +120,9 @@ pub fn focusable_widgets(
 {
     let mut n: usize = 0;
     let mut from: usize = 0;
-    while from < ids.len() {
-        match widget_rows::next_in_layer(ids, words, rects, count, from, layer) {
-            Listed::End => return n,
-            Listed::Widget(next, w) => {
-                n = put_focusable(out, n, w);
-                from = next;
-            }
-        }
+    while let Some((next, w)) = widget_rows::next_in_layer(ids, words, rects, count, from, layer) {
+        n = put_focusable(out, n, w);
+        from = next;
     }
     n
 }

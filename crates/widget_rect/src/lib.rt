@@ -41,18 +41,16 @@ impl WidgetRect {
     fn rects_refusal(self) -> u64
         ensures { result ≡ rects_refusal self }
     {
-        let rect = self.rect;
-        let interact_rect = self.interact_rect;
-        refusal::lowest(grid::rect(rect), grid::rect(interact_rect))
+        refusal::lowest(grid::rect(self.rect), grid::rect(self.interact_rect))
     }
 
     // What the record alone is refused for.
+    #[tactic(auto, unfolding(crate::specs::WidgetRect::widget_refusal))]
     fn refusal(self) -> u64
         ensures { result ≡ widget_refusal self }
     {
-        let layer_id = self.layer_id;
         let codes = refusal::lowest(
-            layer_id.refusal(),
+            self.layer_id.refusal(),
             refusal::code_refusal(self.sense, LAST_SENSE),
         );
         let rest = refusal::lowest(codes, self.rects_refusal());
@@ -60,40 +58,32 @@ impl WidgetRect {
     }
 
     // What an insert of the record into a layer is refused for, whatever the registry holds.
+    #[tactic(auto, unfolding(crate::specs::WidgetRect::insert_refusal))]
     pub fn insert_refusal(self, layer: LayerId) -> u64
         ensures { result ≡ insert_refusal self layer }
     {
-        let layer_id = self.layer_id;
-        let layers = refusal::lowest(layer.refusal(), other_layer(layer, layer_id));
+        let layers = refusal::lowest(layer.refusal(), other_layer(layer, self.layer_id));
         refusal::lowest(self.refusal(), layers)
     }
 
     // What insert does to the record of a known widget: the new rectangles, and sense, enabled and visible joined.
-    pub fn joined(self, new: WidgetRect) -> WidgetRect
+    #[tactic(auto, unfolding(crate::specs::WidgetRect::joined_of))]
+    pub fn joined(mut self, new: WidgetRect) -> WidgetRect
         ensures { result ≡ joined_of self new }
     {
-        let layer_id = self.layer_id;
-        let rect = new.rect;
-        let interact_rect = new.interact_rect;
-        WidgetRect {
-            id: self.id,
-            parent_id: self.parent_id,
-            layer_id: layer_id,
-            rect: rect,
-            interact_rect: interact_rect,
-            sense: self.sense | new.sense,
-            enabled: self.enabled | new.enabled,
-            visible: self.visible | new.visible,
-        }
+        self.rect = new.rect;
+        self.interact_rect = new.interact_rect;
+        self.sense |= new.sense;
+        self.enabled |= new.enabled;
+        self.visible |= new.visible;
+        self
     }
 
     // Whether the widget is enabled and can take keyboard focus.
+    #[tactic(auto, unfolding(crate::specs::WidgetRect::is_focusable))]
     pub fn is_focusable(self) -> bool
         ensures { result ≡ is_focusable self }
     {
-        if self.enabled {
-            return self.sense / 4 % 2 == 1;
-        }
-        false
+        self.enabled && self.sense / 4 % 2 == 1
     }
 }

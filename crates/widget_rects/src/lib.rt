@@ -11,7 +11,6 @@ use layers::LayerId;
 use refusal::{NONE, WIDGETS};
 use widget_queries::{ContainsAnswer, OrderAnswer, WidgetAnswer};
 use widget_rect::WidgetRect;
-use widget_rows::Listed;
 
 #[derive(Clone, Copy)]
 pub struct WidgetRects {
@@ -55,7 +54,7 @@ fn blank() -> WidgetRect
         id: 0,
         parent_id: 0,
         layer_id: LayerId { order: 0, id: 0 },
-        rect: rect,
+        rect,
         interact_rect: rect,
         sense: 0,
         enabled: false,
@@ -64,6 +63,7 @@ fn blank() -> WidgetRect
 }
 
 impl WidgetRects {
+    #[tactic(auto, unfolding(crate::specs::WidgetRects::new_rects, widget_table::specs::Table::new_table))]
     pub fn new() -> WidgetRects
         ensures { result ≡ new_rects }
     {
@@ -76,124 +76,108 @@ impl WidgetRects {
         }
     }
 
-    pub fn insert(self, layer: LayerId, new: WidgetRect, move_to_top: bool) -> Inserted
+    #[tactic(auto, unfolding(crate::specs::WidgetRects::inserted_of))]
+    pub fn insert(mut self, layer: LayerId, new: WidgetRect, move_to_top: bool) -> Inserted
         ensures { result ≡ inserted_of self layer new move_to_top }
     {
-        let mut cells = self.cells;
-        let mut ids = self.ids;
-        let mut words = self.words;
-        let mut rects = self.rects;
         let r = widget_table::insert(
-            &mut cells,
-            &mut ids,
-            &mut words,
-            &mut rects,
+            &mut self.cells,
+            &mut self.ids,
+            &mut self.words,
+            &mut self.rects,
             self.count,
             layer,
             new,
             move_to_top,
         );
-        let widgets = WidgetRects {
-            count: r.count,
-            cells: cells,
-            ids: ids,
-            words: words,
-            rects: rects,
-        };
+        self.count = r.count;
         Inserted {
             refusal: r.refusal,
-            widgets: widgets,
+            widgets: self,
         }
     }
 
-    pub fn clear(self) -> WidgetRects
+    #[tactic(auto, unfolding(crate::specs::WidgetRects::cleared_rects, widget_table::specs::Table::clear_of))]
+    pub fn clear(mut self) -> WidgetRects
         ensures { result ≡ cleared_rects self }
     {
-        let mut cells = self.cells;
-        let count = widget_table::clear(&mut cells);
-        let ids = self.ids;
-        let words = self.words;
-        let rects = self.rects;
-        WidgetRects {
-            count: count,
-            cells: cells,
-            ids: ids,
-            words: words,
-            rects: rects,
-        }
+        self.count = widget_table::clear(&mut self.cells);
+        self
     }
 
-    pub fn order(self, id: u64) -> OrderAnswer
-        ensures { result ≡ order_answer (table_of self) id }
+    pub fn order(&self, id: u64) -> OrderAnswer
+        ensures { result ≡ order_answer (table_of self.now) id }
     {
-        let cells = self.cells;
-        let ids = self.ids;
-        let words = self.words;
-        let rects = self.rects;
-        widget_queries::order(&cells, &ids, &words, &rects, self.count, id)
+        widget_queries::order(
+            &self.cells,
+            &self.ids,
+            &self.words,
+            &self.rects,
+            self.count,
+            id,
+        )
     }
 
-    pub fn get(self, id: u64) -> WidgetAnswer
-        ensures { result ≡ widget_answer (table_of self) id }
+    pub fn get(&self, id: u64) -> WidgetAnswer
+        ensures { result ≡ widget_answer (table_of self.now) id }
     {
-        let cells = self.cells;
-        let ids = self.ids;
-        let words = self.words;
-        let rects = self.rects;
-        widget_queries::widget(&cells, &ids, &words, &rects, self.count, id)
+        widget_queries::widget(
+            &self.cells,
+            &self.ids,
+            &self.words,
+            &self.rects,
+            self.count,
+            id,
+        )
     }
 
-    pub fn contains(self, id: u64) -> ContainsAnswer
-        ensures { result ≡ contains_answer (table_of self) id }
+    pub fn contains(&self, id: u64) -> ContainsAnswer
+        ensures { result ≡ contains_answer (table_of self.now) id }
     {
-        let cells = self.cells;
-        let ids = self.ids;
-        let words = self.words;
-        let rects = self.rects;
-        widget_queries::contains(&cells, &ids, &words, &rects, self.count, id)
+        widget_queries::contains(
+            &self.cells,
+            &self.ids,
+            &self.words,
+            &self.rects,
+            self.count,
+            id,
+        )
     }
 
     // The widgets of a layer that is not refused.
-    fn list(self, layer: LayerId) -> Listing
-        ensures { result ≡ listing (list_of (table_of self) layer) }
+    fn list(&self, layer: LayerId) -> Listing
+        ensures { result ≡ listing (list_of (table_of self.now) layer) }
     {
-        let ids = self.ids;
-        let words = self.words;
-        let rects = self.rects;
-        let count = self.count;
         let mut widgets = [blank(); WIDGETS];
-        let mut n: usize = 0;
+        let mut count: usize = 0;
         let mut from: usize = 0;
-        while from < WIDGETS {
-            match widget_rows::next_in_layer(&ids, &words, &rects, count, from, layer) {
-                Listed::End => {
-                    return Listing {
-                        refusal: NONE,
-                        count: n,
-                        widgets: widgets,
-                    };
-                }
-                Listed::Widget(next, w) => {
-                    widgets[n] = w;
-                    n += 1;
-                    from = next;
-                }
-            }
+        while let Some((next, w)) = widget_rows::next_in_layer(
+            &self.ids,
+            &self.words,
+            &self.rects,
+            self.count,
+            from,
+            layer,
+        ) {
+            widgets[count] = w;
+            count += 1;
+            from = next;
         }
         Listing {
             refusal: NONE,
-            count: n,
-            widgets: widgets,
+            count,
+            widgets,
         }
     }
 
-    pub fn get_layer(self, layer: LayerId) -> Listing
-        ensures { result ≡ list_answer (table_of self) layer }
+    #[tactic(auto, unfolding(crate::specs::WidgetRects::list_answer))]
+    pub fn get_layer(&self, layer: LayerId) -> Listing
+        ensures { result ≡ list_answer (table_of self.now) layer }
     {
         let refusal = layer.refusal();
         if refusal != NONE {
             return Listing {
-                refusal: refusal,
+                refusal,
                 count: 0,
                 widgets: [blank(); WIDGETS],
             };
@@ -201,28 +185,31 @@ impl WidgetRects {
         self.list(layer)
     }
 
-    pub fn focusable_widgets_in_layer(self, layer: LayerId) -> Ids
-        ensures { result ≡ ids_answer (table_of self) layer }
+    #[tactic(auto, unfolding(crate::specs::WidgetRects::ids_answer, widget_rows::specs::Rows::list_of))]
+    pub fn focusable_widgets_in_layer(&self, layer: LayerId) -> Ids
+        ensures { result ≡ ids_answer (table_of self.now) layer }
     {
-        let mut found = [0; WIDGETS];
+        let mut ids = [0; WIDGETS];
         let refusal = layer.refusal();
         if refusal != NONE {
             return Ids {
-                refusal: refusal,
+                refusal,
                 count: 0,
-                ids: found,
+                ids,
             };
         }
-        let ids = self.ids;
-        let words = self.words;
-        let rects = self.rects;
-        let n = widget_queries::focusable_widgets(
-            &ids, &words, &rects, self.count, layer, &mut found,
+        let count = widget_queries::focusable_widgets(
+            &self.ids,
+            &self.words,
+            &self.rects,
+            self.count,
+            layer,
+            &mut ids,
         );
         Ids {
             refusal: NONE,
-            count: n,
-            ids: found,
+            count,
+            ids,
         }
     }
 }

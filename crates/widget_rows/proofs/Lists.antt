@@ -9,39 +9,23 @@ use native.Mathlib.Omega.{arith}
 use lib.ListN.{length, set, take, drop, length-set, length-append, length-take, length-drop, take-append-drop}
 use lib.Seq.{take-add, drop-drop, take-set-le, drop-set-lt, drop-set-add, get_or-drop}
 use Rattle.layers.specs.declared.LayerId.{LayerId}
-use Rattle.widget_rect.specs.declared.WidgetRect.{WidgetRect}
-use Rattle.widget_rows.specs.declared.Listed.TheVariants.{End, Widget}
+use Rattle.std.specs.Prelude.{None, Some}
 use Rattle.widget_rows.specs.Rows.{Rows, is_in, index_at, record_at, listed_in, one_more, one_less, next_index, lowered_at, renumbered_rows, renumbered}
 
-module _ (words : List ℕ) (layer : LayerId) where
-  -- ---- the row k of the layer, one less
-  pub lower_yes : (k i v : ℕ) (b : Bool) → b ≡ is_in words k layer → b ≡ true → i ≡ index_at words k → v ≡ one_less i → set words (10 * k + 3) v ≡ lowered_at words k layer
-  unfolding lowered_at
-  lower_yes k i v b e t f d = rw (← e, t, d, f)
+-- ---- the index after the last, from row k down
+pub next_hit : (words : List ℕ) (k : ℕ) (layer : LayerId) → 0 < k → is_in words (k - 1) layer ≡ true → next_index words k layer ≡ one_more (index_at words (k - 1))
+unfolding next_index
+next_hit words zero layer l e = absurd (omega arith)
+next_hit words (suc k) layer l e =
+    let p : suc k - 1 ≡ k = omega arith in
+    rw (p, rw p at e)
 
-  pub lower_no : (k : ℕ) (b : Bool) → b ≡ is_in words k layer → b ≡ false → words ≡ lowered_at words k layer
-  unfolding lowered_at
-  lower_no k b e t = rw (← e, t)
-
-  -- ---- the index after the last, from row k down
-  pub next_hit : (k i v : ℕ) (b : Bool) → 0 < k → b ≡ is_in words (k - 1) layer → b ≡ true → i ≡ index_at words (k - 1) → v ≡ one_more i → next_index words k layer ≡ v
-  unfolding next_index
-  next_hit zero i v b l e t f d = absurd (omega arith)
-  next_hit (suc k) i v b l e t f d =
-      let p : suc k - 1 ≡ k = omega arith in
-      rw (← rw p at e, t, d, ← rw p at f)
-
-  pub next_miss : (k : ℕ) (b : Bool) → 0 < k → b ≡ is_in words (k - 1) layer → b ≡ false → next_index words k layer ≡ next_index words (k - 1) layer
-  unfolding next_index
-  next_miss zero b l e t = absurd (omega arith)
-  next_miss (suc k) b l e t =
-      let p : suc k - 1 ≡ k = omega arith in
-      rw (p, ← rw p at e, t)
-
-  pub next_end : (k : ℕ) → (0 < k → ⊥) → next_index words k layer ≡ 0
-  unfolding next_index
-  next_end zero l = refl
-  next_end (suc k) l = absurd (l (omega arith))
+pub next_miss : (words : List ℕ) (k : ℕ) (layer : LayerId) → 0 < k → is_in words (k - 1) layer ≡ false → next_index words k layer ≡ next_index words (k - 1) layer
+unfolding next_index
+next_miss words zero layer l e = absurd (omega arith)
+next_miss words (suc k) layer l e =
+    let p : suc k - 1 ≡ k = omega arith in
+    rw (p, rw p at e)
 
 -- ---- one number of a list, changed or not
 module _ (xs : List ℕ) (i v : ℕ) where
@@ -114,17 +98,22 @@ module _ (layer : LayerId) (tail : List ℕ) where
   unfolding renumbered_rows
   renumber_end k m e = rw (e, take-append-drop (10 * k) tail)
 
--- ---- the first widget of a list at row k or after it, m rows being left
-module _ (t : Rows) (layer : LayerId) (k : ℕ) where
-  pub listed_hit : (m : ℕ) (b : Bool) (w : WidgetRect) → 0 < m → b ≡ is_in t.words k layer → b ≡ true → w ≡ record_at t k 1 → Widget (k + 1) w ≡ listed_in t layer m k
+-- ---- the first widget of a list at row k or after it, among the first n
+module _ (t : Rows) (layer : LayerId) (n k : ℕ) where
+  pub listed_hit : k < n → is_in t.words k layer ≡ true → listed_in t layer (n - k) k ≡ Some (k + 1, record_at t k 1)
   unfolding listed_in
-  listed_hit zero b w l e f d = absurd (omega arith)
-  listed_hit (suc m) b w l e f d = rw (add-one, d, ← e, f)
+  listed_hit l e =
+      let p : n - k ≡ suc (n - k - 1) = omega arith in
+      rw (p, e, add-one)
 
-  pub listed_miss : (m rest : ℕ) (b : Bool) → m ≡ suc rest → b ≡ is_in t.words k layer → b ≡ false → listed_in t layer m k ≡ listed_in t layer rest (k + 1)
+  pub listed_miss : k < n → is_in t.words k layer ≡ false → listed_in t layer (n - k) k ≡ listed_in t layer (n - (k + 1)) (k + 1)
   unfolding listed_in
-  listed_miss m rest b p e f = rw (p, add-one, ← e, f)
+  listed_miss l e =
+      let p : n - k ≡ suc (n - (k + 1)) = omega arith in
+      rw (p, e, add-one)
 
-  pub listed_end : (m : ℕ) → m ≡ 0 → End ≡ listed_in t layer m k
+  pub listed_end : n ≤ k → listed_in t layer (n - k) k ≡ None
   unfolding listed_in
-  listed_end m e = rw e
+  listed_end l =
+      let p : n - k ≡ 0 = omega arith in
+      rw p

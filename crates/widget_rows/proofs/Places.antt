@@ -4,30 +4,24 @@ use mathlib.Core.Bool.{Bool, true, false}
 use mathlib.Core.List.{List}
 use Prim.Native.Nat.{ℕ, zero, suc, ◌+◌, ◌*◌, ◌/◌, min, ◌<◌, ◌≤◌}
 use native.Mathlib.Omega.{arith}
-use lib.Bits.{and_zero_l}
 use lib.ListN.{length, get_or, take}
 use lib.Dec.{ltb}
 use lib.Seq.{length-take-le, take_all, take-length}
-use borrow.Author.Tests.{lt-ltb, le-ltb, ltb-true, ltb-false}
-use Rattle.tables.specs.declared.Found.{Found}
-use Rattle.tables.specs.declared.Found.TheVariants.{At, Nothing}
+use borrow.Author.Tests.{lt-ltb, ltb-true, ltb-false}
+use Rattle.std.specs.Prelude.{Option, Some}
 use Rattle.tables.specs.Tables.{nearest}
 use Rattle.tables.proofs.Finding.{nearest_at}
 use Rattle.widget_rect.specs.declared.WidgetRect.{WidgetRect}
-use Rattle.widget_rows.specs.declared.Entry.TheVariants.{Vacant, Occupied}
-use Rattle.widget_rows.specs.Rows.{Rows, room_of, held_in, found_in, index_at, record_at, entry_of, home_of, place_by, place_of, record_or}
-
-pub home_of_none : (cells : List ℕ) (id : ℕ) → length cells ≡ 0 → 0 ≡ home_of cells id
-home_of_none cells id e = rw e (sym (and_zero_l id))
+use Rattle.widget_rows.specs.Rows.{Rows, room_of, held_in, found_in, record_at, home_of, place_by, place_of, record_or}
 
 -- ---- the two ways of `place`
-by_cell : (held : List ℕ) (id cell : ℕ) → (cell ≡ 0 → ⊥) → place_by cell held id ≡ nearest held cell id
+pub by_cell : (held : List ℕ) (id cell : ℕ) → (cell ≡ 0 → ⊥) → place_by cell held id ≡ nearest held cell id
 unfolding place_by
 by_cell held id zero n = absurd (n refl)
 by_cell held id (suc k) n = refl
 
 -- the first n, or all where they are fewer
-as_far : (xs : List ℕ) (n m : ℕ) → m ≡ min n (length xs) → take m xs ≡ take n xs
+pub as_far : (xs : List ℕ) (n m : ℕ) → m ≡ min n (length xs) → take m xs ≡ take n xs
 as_far xs n m e = go (ltb n (length xs)) refl
   where
     go : (b : Bool) → ltb n (length xs) ≡ b → take m xs ≡ take n xs
@@ -39,15 +33,6 @@ as_far xs n m e = go (ltb n (length xs)) refl
         let l = ltb-false n (length xs) p in
         let q : m ≡ length xs = omega arith in
         rw (q, take-length xs, take_all n xs (omega arith))
-
-module _ (cells : List ℕ) (id h cell : ℕ) (home : h ≡ home_of cells id) (read : cell ≡ get_or cells h 1) where
-  pub place_none : (held : List ℕ) → cell ≡ 0 → Nothing ≡ place_of cells held id
-  unfolding place_of place_by
-  place_none held z = rw (← home, ← read, z)
-
-  pub place_near : (ids : List ℕ) (n m : ℕ) (f : Found) → (cell ≡ 0 → ⊥) → m ≡ min n (length ids) → f ≡ nearest (take m ids) cell id → f ≡ place_of cells (take n ids) id
-  unfolding place_of
-  place_near ids n m f z e g = rw (g, as_far ids n m e, ← home, ← read, by_cell (take n ids) id cell z)
 
 -- ---- the rows that are held are there
 pub held_fits : (t : Rows) (count room n : ℕ) → room ≡ room_of t → n ≡ min count room → (n ≤ length t.ids) × (10 * n ≤ length t.words) × (16 * n ≤ length t.rects)
@@ -65,12 +50,12 @@ row_fits t k room r l =
     (omega arith, omega arith, omega arith)
 
 -- ---- a row that is found is held
-below : (held : List ℕ) (id k cell : ℕ) → place_by cell held id ≡ At k → k < length held
+below : (held : List ℕ) (id k cell : ℕ) → place_by cell held id ≡ Some k → k < length held
 unfolding place_by
 below held id k zero e = let z : ◌≡◌ {A = ℕ} 0 1 = cc in absurd (omega arith)
 below held id k (suc j) e = (nearest_at held (suc j) id k e).0
 
-pub place_below : (cells held : List ℕ) (id k : ℕ) → place_of cells held id ≡ At k → k < length held
+pub place_below : (cells held : List ℕ) (id k : ℕ) → place_of cells held id ≡ Some k → k < length held
 unfolding place_of
 place_below cells held id k e = below held id k (get_or cells (home_of cells id) 1) e
 
@@ -79,39 +64,21 @@ module _ (t : Rows) (count room n : ℕ) (r : room ≡ room_of t) (e : n ≡ min
   unfolding held_in
   held_is = rw (← r) e
 
-  module _ (cells : List ℕ) (id : ℕ) (f : Found) (p : f ≡ place_of cells (take n t.ids) id) where
+  module _ (cells : List ℕ) (id : ℕ) (f : Option ℕ) (p : f ≡ place_of cells (take n t.ids) id) where
     pub found_is : f ≡ found_in (record { count = count; cells = cells; rows = t }) id
     unfolding found_in
     found_is = rw (← held_is) p
 
     -- a row that is found is held, and so are its numbers
-    pub found_below : (k : ℕ) → f ≡ At k → k < n
+    pub found_below : (k : ℕ) → f ≡ Some k → k < n
     found_below k a =
         let l = length-take-le n t.ids (held_fits t count room n r e).0 in
         rw l at (place_below cells (take n t.ids) id k (sym p ∙ a))
 
-    pub entry_at : (k i : ℕ) (w : WidgetRect) → f ≡ At k → i ≡ index_at t.words k → w ≡ record_at t k 0 → Occupied i w ≡ entry_of (record { count = count; cells = cells; rows = t }) id
-    unfolding entry_of
-    entry_at k i w a x y = rw (← found_is, a, x, y)
-
-    pub entry_none : f ≡ Nothing → Vacant ≡ entry_of (record { count = count; cells = cells; rows = t }) id
-    unfolding entry_of
-    entry_none a = rw (← found_is, a)
-
--- ---- the record held by id at row k, or another past the room
-module _ (t : Rows) (k room : ℕ) (d : WidgetRect) (r : room ≡ room_of t) where
-  pub record_in : (w : WidgetRect) → k < room → w ≡ record_at t k 0 → w ≡ record_or t k d
-  unfolding record_or
-  record_in w l e = rw (← r, lt-ltb k room l) e
-
-  pub record_past : room ≤ k → d ≡ record_or t k d
-  unfolding record_or
-  record_past l = rw (← r, le-ltb k room l)
-
--- of a held row it is that row's
-pub record_held : (t : Rows) (n k : ℕ) (d w : WidgetRect) → k < n → n ≤ length t.ids → 10 * n ≤ length t.words → 16 * n ≤ length t.rects → w ≡ record_or t k d → w ≡ record_at t k 0
+-- ---- the record held by id at a row that is there
+pub record_held : (t : Rows) (k : ℕ) (d : WidgetRect) → k < length t.ids → 10 * k + 10 ≤ length t.words → 16 * k + 16 ≤ length t.rects → record_or t k d ≡ record_at t k 0
 unfolding record_or room_of
-record_held t n k d w l i x y e =
-    let a : n ≤ length t.words / 10 = omega arith in
-    let b : n ≤ length t.rects / 16 = omega arith in
-    rw (lt-ltb k (room_of t) (omega arith)) at e
+record_held t k d i w x =
+    let a : k < length t.words / 10 = omega arith in
+    let b : k < length t.rects / 16 = omega arith in
+    rw (lt-ltb k (room_of t) (omega arith))

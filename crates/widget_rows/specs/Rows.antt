@@ -1,19 +1,13 @@
 -- WidgetRects of widget_rect.rs (lines 104 to 245) as one table of rows, and what is read of it. What it means in the Rust's terms is
 -- crates/widget_maps/specs/Egui.antt; a reader needs only that. Definitions only.
-use Rattle.std.specs.Prelude.{ℕ, zero, suc, ◌+◌, ◌-◌, ◌*◌, ◌/◌, min, Bool, cond, not, List, [], ◌∷◌, ◌++◌, eqb, ltb, Float, length, get_or, take, drop, set}
+use Rattle.std.specs.Prelude.{ℕ, zero, suc, ◌+◌, ◌-◌, ◌*◌, ◌/◌, min, Bool, cond, not, Option, None, Some, List, [], ◌∷◌, ◌++◌, eqb, ltb, Float, length, get_or, take, drop, set}
 use Rattle.std.specs.Int.Bits.{bit_and}
 use Rattle.std.specs.Float.{nan}
 use Rattle.emath.specs.declared.Rect.{Rect}
 use Rattle.layers.specs.declared.LayerId.{LayerId}
 use Rattle.layers.specs.Layers.{is_layer}
-use Rattle.tables.specs.declared.Found.{Found}
-use Rattle.tables.specs.declared.Found.TheVariants.{At, Nothing}
 use Rattle.tables.specs.Tables.{nearest}
 use Rattle.widget_rect.specs.declared.WidgetRect.{WidgetRect}
-use Rattle.widget_rows.specs.declared.Entry.{Entry}
-use Rattle.widget_rows.specs.declared.Entry.TheVariants.{Vacant, Occupied}
-use Rattle.widget_rows.specs.declared.Listed.{Listed}
-use Rattle.widget_rows.specs.declared.Listed.TheVariants.{End, Widget}
 
 pub record Rows : Type 0 where
   pub ids : List ℕ
@@ -78,11 +72,11 @@ renumbered layer tail = renumbered_rows (length tail / 10) layer tail
 abbrev pub home_of : List ℕ → ℕ → ℕ
 home_of cells id = bit_and (length cells - 1) id
 
-unfoldable pub place_by : ℕ → List ℕ → ℕ → Found
-place_by zero held id = Nothing
+unfoldable pub place_by : ℕ → List ℕ → ℕ → Option ℕ
+place_by zero held id = None
 place_by (suc k) held id = nearest held (suc k) id
 
-unfoldable pub place_of : List ℕ → List ℕ → ℕ → Found
+unfoldable pub place_of : List ℕ → List ℕ → ℕ → Option ℕ
 place_of cells held id = place_by (get_or cells (home_of cells id) 1) held id
 
 unfoldable pub room_of : Rows → ℕ
@@ -95,7 +89,7 @@ held_in count t = min count (room_of t)
 abbrev pub held_of : Table → ℕ
 held_of t = held_in t.count t.rows
 
-unfoldable pub found_in : Table → ℕ → Found
+unfoldable pub found_in : Table → ℕ → Option ℕ
 found_in t id = place_of t.cells (take (held_of t) t.rows.ids) id
 
 -- the record held by id at row k, or d past the room
@@ -103,11 +97,11 @@ unfoldable pub record_or : Rows → ℕ → WidgetRect → WidgetRect
 record_or t k d = cond (ltb k (room_of t)) (record_at t k 0) d
 
 -- ---- what is held of an id, and of a layer
-abbrev pub entry_at : Rows → Found → Entry
-entry_at t (At k) = Occupied (index_at t.words k) (record_at t k 0)
-entry_at t Nothing = Vacant
+abbrev pub entry_at : Rows → Option ℕ → Option (ℕ × WidgetRect)
+entry_at t (Some k) = Some (index_at t.words k, record_at t k 0)
+entry_at t None = None
 
-unfoldable pub entry_of : Table → ℕ → Entry
+unfoldable pub entry_of : Table → ℕ → Option (ℕ × WidgetRect)
 entry_of t id = entry_at t.rows (found_in t id)
 
 -- the layer's list, and its first widget with the row after it: of m rows from row k on
@@ -116,9 +110,9 @@ module _ (t : Rows) (layer : LayerId) where
   list_in zero k = []
   list_in (suc m) k = cond (is_in t.words k layer) (record_at t k 1 ∷ list_in m (suc k)) (list_in m (suc k))
 
-  unfoldable pub listed_in : ℕ → ℕ → Listed
-  listed_in zero k = End
-  listed_in (suc m) k = cond (is_in t.words k layer) (Widget (suc k) (record_at t k 1)) (listed_in m (suc k))
+  unfoldable pub listed_in : ℕ → ℕ → Option (ℕ × WidgetRect)
+  listed_in zero k = None
+  listed_in (suc m) k = cond (is_in t.words k layer) (Some (suc k, record_at t k 1)) (listed_in m (suc k))
 
 unfoldable pub list_of : Table → LayerId → List WidgetRect
 list_of t layer = list_in t.rows layer (held_of t) 0

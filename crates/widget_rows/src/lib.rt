@@ -13,22 +13,7 @@ ghost use Rattle.widget_rows.specs.Rows.{rows_in, table_in, home_of, place_of, r
 
 use emath::{Pos2, Rect};
 use layers::LayerId;
-use tables::Found;
 use widget_rect::WidgetRect;
-
-// What by_id holds of an id: its index in the list of its layer, and its record.
-#[derive(Clone, Copy)]
-pub enum Entry {
-    Vacant,
-    Occupied(u64, WidgetRect),
-}
-
-// The next widget of a layer's list, and the row after it.
-#[derive(Clone, Copy)]
-pub enum Listed {
-    End,
-    Widget(usize, WidgetRect),
-}
 
 // ---- rows
 
@@ -58,6 +43,7 @@ fn layer(words: &[u64], k: usize) -> LayerId
     }
 }
 
+#[tactic(auto, unfolding(crate::specs::Rows::is_in))]
 fn is_in(words: &[u64], k: usize, layer_id: LayerId) -> bool
     requires { 10 * k + 10 ≤ length words.now }
     ensures { result ≡ is_in words.now k layer_id }
@@ -65,6 +51,7 @@ fn is_in(words: &[u64], k: usize, layer_id: LayerId) -> bool
     layer(words, k).is(layer_id)
 }
 
+#[tactic(auto, unfolding(crate::specs::Rows::index_at))]
 fn index(words: &[u64], k: usize) -> u64
     requires { 10 * k + 10 ≤ length words.now }
     ensures { result ≡ index_at words.now k }
@@ -73,21 +60,19 @@ fn index(words: &[u64], k: usize) -> u64
 }
 
 // A half of row k as a record.
+#[tactic(auto, unfolding(crate::specs::Rows::record_at))]
 fn read_half(ids: &[u64], words: &[u64], rects: &[f32], k: usize, half: usize) -> WidgetRect
     requires { (k < length ids.now) × (10 * k + 10 ≤ length words.now) × (16 * k + 16 ≤ length rects.now) × (half ≤ 1) }
     ensures { result ≡ record_at (rows_in ids.now words.now rects.now) k half }
 {
     let look = 10 * k + 4 + 3 * half;
     let edges = 16 * k + 8 * half;
-    let layer_id = layer(words, k);
-    let outer = rect(rects, edges);
-    let interact_rect = rect(rects, edges + 4);
     WidgetRect {
         id: ids[k],
         parent_id: words[10 * k],
-        layer_id: layer_id,
-        rect: outer,
-        interact_rect: interact_rect,
+        layer_id: layer(words, k),
+        rect: rect(rects, edges),
+        interact_rect: rect(rects, edges + 4),
         sense: words[look],
         enabled: words[look + 1] != 0,
         visible: words[look + 2] != 0,
@@ -96,51 +81,37 @@ fn read_half(ids: &[u64], words: &[u64], rects: &[f32], k: usize, half: usize) -
 
 // ---- the lists of the layers
 
-fn one_more(n: u64) -> u64
-    ensures { result ≡ one_more n }
-{
-    if n < 18446744073709551615 { n + 1 } else { n }
-}
-
-fn one_less(n: u64) -> u64
-    ensures { result ≡ one_less n }
-{
-    if 0 < n { n - 1 } else { 0 }
-}
-
 // The index after the last of the layer's list, among the first n rows, or among all where they are fewer.
+#[tactic(auto, using(crate::proofs::Lists::next_hit, crate::proofs::Lists::next_miss), unfolding(crate::specs::Rows::next_index))]
 pub fn next_index(words: &[u64], n: usize, layer: LayerId) -> u64
     ensures { result ≡ next_index words.now (min n (length words.now / 10)) layer }
 {
-    let mut k = tables::fewer(n, words.len() / 10);
-    while 0 < k {
-        k -= 1;
+    for k in (0..n.min(words.len() / 10)).rev() {
         if is_in(words, k, layer) {
-            return one_more(index(words, k));
+            return index(words, k).saturating_add(1);
         }
     }
     0
 }
 
 // The index of row k is one less, if the row is of the layer.
+#[tactic(auto, unfolding(crate::specs::Rows::lowered_at))]
 fn lower(tail: &mut [u64], k: usize, layer: LayerId)
     requires { 10 * k + 10 ≤ length tail.old }
     ensures { tail.new ≡ lowered_at tail.old k layer }
 {
     if is_in(tail, k, layer) {
-        tail[10 * k + 3] = one_less(index(tail, k));
+        tail[10 * k + 3] = index(tail, k).saturating_sub(1);
     }
 }
 
 // The places of the layer's list in a tail of the rows are one less each.
+#[tactic(auto, using(crate::proofs::Lists::renumber_more, crate::proofs::Lists::lowered_length, crate::proofs::Lists::renumber_end), unfolding(crate::specs::Rows::renumbered))]
 fn renumber(tail: &mut [u64], layer: LayerId)
     ensures { tail.new ≡ renumbered layer tail.old }
 {
-    let n = tail.len() / 10;
-    let mut k: usize = 0;
-    while k < n {
+    for k in 0..tail.len() / 10 {
         lower(tail, k, layer);
-        k += 1;
     }
 }
 
@@ -158,57 +129,63 @@ pub fn take_out(tail: &mut [u64], layer: LayerId)
 pub fn home(cells: &[u64], id: u64) -> usize
     ensures { result ≡ home_of cells.now id }
 {
-    if cells.len() == 0 {
-        return 0;
-    }
-    ((cells.len() as u64 - 1) & id) as usize
+    ((cells.len() as u64).saturating_sub(1) & id) as usize
 }
 
 // The row of an id among the first n, or among all where they are fewer. Where the cell of its home is 0, it has none; else it is the row before the cell's,
 // or a little below, since rows that move go down.
-pub fn place(cells: &[u64], ids: &[u64], n: usize, id: u64) -> Found
+#[tactic(auto, using(crate::proofs::Places::by_cell, crate::proofs::Places::as_far), unfolding(crate::specs::Rows::place_of, crate::specs::Rows::place_by))]
+pub fn place(cells: &[u64], ids: &[u64], n: usize, id: u64) -> Option<usize>
     ensures { result ≡ place_of cells.now (take n ids.now) id }
 {
-    let cell = tables::at_or(cells, home(cells, id), 1);
+    let cell = cells.get(home(cells, id)).copied().unwrap_or(1);
     if cell == 0 {
-        return Found::Nothing;
+        return None;
     }
-    let m = tables::fewer(n, ids.len());
-    tables::find(&ids[..m], cell as usize, id)
+    tables::find(&ids[..n.min(ids.len())], cell as usize, id)
 }
 
 // How many whole rows the tables have.
+#[tactic(auto, unfolding(crate::specs::Rows::room_of))]
 pub fn room(ids: &[u64], words: &[u64], rects: &[f32]) -> usize
     ensures { result ≡ room_of (rows_in ids.now words.now rects.now) }
 {
-    let rows = tables::fewer(words.len() / 10, rects.len() / 16);
-    tables::fewer(ids.len(), rows)
+    ids.len().min(words.len() / 10).min(rects.len() / 16)
 }
 
 // ---- what is held
 
 // The record held by id at row k, or d past the room, so that no caller has to be asked for a row that is there.
+#[tactic(auto, unfolding(crate::specs::Rows::record_or, crate::specs::Rows::room_of))]
 pub fn record_or(ids: &[u64], words: &[u64], rects: &[f32], k: usize, d: WidgetRect) -> WidgetRect
     ensures { result ≡ record_or (rows_in ids.now words.now rects.now) k d }
 {
     if k < room(ids, words, rects) {
-        return read_half(ids, words, rects, k, 0);
+        read_half(ids, words, rects, k, 0)
+    } else {
+        d
     }
-    d
 }
 
-// by_id.get
-pub fn get(cells: &[u64], ids: &[u64], words: &[u64], rects: &[f32], count: usize, id: u64) -> Entry
+// by_id.get: the index in the list of its layer, and the record.
+#[tactic(auto, unfolding(crate::specs::Rows::entry_of, crate::specs::Rows::found_in, crate::specs::Rows::held_in))]
+pub fn get(
+    cells: &[u64],
+    ids: &[u64],
+    words: &[u64],
+    rects: &[f32],
+    count: usize,
+    id: u64,
+) -> Option<(u64, WidgetRect)>
     ensures { result ≡ entry_of (table_in count cells.now ids.now words.now rects.now) id }
 {
-    let n = tables::fewer(count, room(ids, words, rects));
-    match place(cells, ids, n, id) {
-        Found::At(k) => Entry::Occupied(index(words, k), read_half(ids, words, rects, k, 0)),
-        Found::Nothing => Entry::Vacant,
-    }
+    let n = count.min(room(ids, words, rects));
+    let k = place(cells, ids, n, id)?;
+    Some((index(words, k), read_half(ids, words, rects, k, 0)))
 }
 
-// The first widget of the layer's list that stands at a row or after it.
+// The first widget of the layer's list that stands at a row or after it, with the row after its own.
+#[tactic(auto, using(crate::proofs::Lists::listed_hit, crate::proofs::Lists::listed_miss, crate::proofs::Lists::listed_end), unfolding(crate::specs::Rows::held_in, crate::specs::Rows::room_of))]
 pub fn next_in_layer(
     ids: &[u64],
     words: &[u64],
@@ -216,16 +193,14 @@ pub fn next_in_layer(
     count: usize,
     from: usize,
     layer: LayerId,
-) -> Listed
+) -> Option<(usize, WidgetRect)>
     ensures { result ≡ listed_in (rows_in ids.now words.now rects.now) layer (held_in count (rows_in ids.now words.now rects.now) - from) from }
 {
-    let n = tables::fewer(count, room(ids, words, rects));
-    let mut k = from;
-    while k < n {
+    let n = count.min(room(ids, words, rects));
+    for k in from..n {
         if is_in(words, k, layer) {
-            return Listed::Widget(k + 1, read_half(ids, words, rects, k, 1));
+            return Some((k + 1, read_half(ids, words, rects, k, 1)));
         }
-        k += 1;
     }
-    Listed::End
+    None
 }

@@ -1,13 +1,11 @@
 -- WidgetRects of widget_rect.rs (lines 104 to 245): what a change makes of the rows of crate `widget_rows`, the exact value of each number of them. What it means in
 -- the Rust's terms is crates/widget_maps/specs/Egui.antt; a reader needs only that. Definitions only.
-use Rattle.std.specs.Prelude.{ℕ, zero, suc, ◌+◌, ◌-◌, ◌*◌, Bool, cond, List, [], ◌∷◌, ltb, Float, length, set, replicate}
+use Rattle.std.specs.Prelude.{ℕ, zero, suc, ◌+◌, ◌-◌, ◌*◌, Bool, cond, Option, None, Some, List, [], ◌∷◌, ltb, Float, length, set, replicate}
 use Rattle.std.specs.Float.{binary32}
 use Rattle.std.specs.Float.Ieee.{of_bits}
 use Rattle.refusal.specs.Refusal.{none, full, lowest}
 use Rattle.layers.specs.declared.LayerId.{LayerId}
 use Rattle.layers.specs.Layers.{is_layer}
-use Rattle.tables.specs.declared.Found.{Found}
-use Rattle.tables.specs.declared.Found.TheVariants.{At, Nothing}
 use Rattle.tables.specs.Tables.{put_at, closed, on_part}
 use Rattle.widget_rect.specs.declared.WidgetRect.{WidgetRect}
 use Rattle.widget_rect.specs.WidgetRect.{joined_of, insert_refusal}
@@ -60,9 +58,9 @@ unfoldable pub row_after : ℕ → ℕ → WidgetRect → WidgetRect → Bool �
 row_after n k w new move-to-top = cond (is_layer w.layer_id new.layer_id) (cond move-to-top (n - 1) k) k
 
 -- ---- `insert`: refusal 6 is for a new id without room for its row
-abbrev pub full_refusal : Found → ℕ → ℕ → ℕ
-full_refusal (At k) n room = none
-full_refusal Nothing n room = cond (ltb n room) none full
+abbrev pub full_refusal : Option ℕ → ℕ → ℕ → ℕ
+full_refusal (Some k) n room = none
+full_refusal None n room = cond (ltb n room) none full
 
 unfoldable pub refusal_of : Table → LayerId → WidgetRect → ℕ
 refusal_of t layer w = lowest (insert_refusal w layer) (full_refusal (found_in t w.id) (held_of t) (room_of t.rows))
@@ -71,11 +69,11 @@ refusal_of t layer w = lowest (insert_refusal w layer) (full_refusal (found_in t
 abbrev pub seen_at : List ℕ → Rows → ℕ → ℕ → ℕ → Table
 seen_at cells rows n id k = record { count = n; cells = set cells (home_of cells id) (k + 1); rows = rows }
 
-abbrev pub insert_at : Table → WidgetRect → Bool → ℕ → Found → Table
-insert_at t new move-to-top n (At k) =
+abbrev pub insert_at : Table → WidgetRect → Bool → ℕ → Option ℕ → Table
+insert_at t new move-to-top n (Some k) =
     let w = joined_at t.rows k new in
     seen_at t.cells (update_of t.rows n k w new move-to-top) n new.id (row_after n k w new move-to-top)
-insert_at t new move-to-top n Nothing = seen_at t.cells (push_of t.rows n new) (n + 1) new.id n
+insert_at t new move-to-top n None = seen_at t.cells (push_of t.rows n new) (n + 1) new.id n
 
 abbrev pub unless_refused : ℕ → Table → Table → Table
 unless_refused zero t t' = t'

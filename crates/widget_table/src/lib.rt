@@ -5,11 +5,10 @@
 ghost use Rattle.std.specs.Prelude.{◌≡◌, ◌+◌, ◌-◌, ◌*◌, ◌≤◌, ◌<◌, length};
 ghost use Rattle.tables.specs.Tables.{put_at};
 ghost use Rattle.widget_rows.specs.Rows.{rows_in, table_in};
-ghost use Rattle.widget_table.specs.Table.{full_refusal, word, edges_of, look_of, shared_of, push_of, remove_of, joined_at, update_of, row_after, refusal_of, insert_of, cleared_cells};
+ghost use Rattle.widget_table.specs.Table.{full_refusal, edges_of, look_of, shared_of, push_of, remove_of, joined_at, update_of, row_after, refusal_of, insert_of, cleared_cells};
 
 use layers::LayerId;
 use refusal::{FULL, NONE};
-use tables::Found;
 use widget_rect::WidgetRect;
 
 #[derive(Clone, Copy)]
@@ -20,12 +19,6 @@ pub struct Inserted {
 }
 
 // ---- the numbers of a row
-
-fn word(b: bool) -> u64
-    ensures { result ≡ word b }
-{
-    if b { 1 } else { 0 }
-}
 
 fn edges(w: WidgetRect) -> [f32; 8]
     ensures { result ≡ edges_of w }
@@ -42,10 +35,9 @@ fn put_half(words: &mut [u64], rects: &mut [f32], k: usize, half: usize, w: Widg
     requires { (10 * k + 10 ≤ length words.old) × (16 * k + 16 ≤ length rects.old) × (half ≤ 1) }
     ensures { (words.new ≡ put_at words.old (10 * k + 4 + 3 * half) (look_of w)) × (rects.new ≡ put_at rects.old (16 * k + 8 * half) (edges_of w)) }
 {
-    let look = [w.sense, word(w.enabled), word(w.visible)];
+    let look = [w.sense, u64::from(w.enabled), u64::from(w.visible)];
     tables::put(words, 10 * k + 4 + 3 * half, &look);
-    let edges = edges(w);
-    tables::put_floats(rects, 16 * k + 8 * half, &edges);
+    tables::put(rects, 16 * k + 8 * half, &edges(w));
 }
 
 // Puts what they share, apart from the id.
@@ -53,20 +45,19 @@ fn put_shared(words: &mut [u64], k: usize, w: WidgetRect, index: u64)
     requires { 10 * k + 10 ≤ length words.old }
     ensures { words.new ≡ put_at words.old (10 * k) (shared_of w index) }
 {
-    let layer_id = w.layer_id;
-    let shared = [w.parent_id, layer_id.order, layer_id.id, index];
+    let shared = [w.parent_id, w.layer_id.order, w.layer_id.id, index];
     tables::put(words, 10 * k, &shared);
 }
 
 // ---- a row more, and a row less
 
 // Puts a widget after the first n rows.
+#[tactic(auto, unfolding(crate::specs::Table::push_of, crate::specs::Table::push_words, crate::specs::Table::push_rects))]
 fn push(ids: &mut [u64], words: &mut [u64], rects: &mut [f32], n: usize, w: WidgetRect)
     requires { (n < length ids.old) × (10 * n + 10 ≤ length words.old) × (16 * n + 16 ≤ length rects.old) }
     ensures { rows_in ids.new words.new rects.new ≡ push_of (rows_in ids.old words.old rects.old) n w }
 {
-    let layer_id = w.layer_id;
-    let index = widget_rows::next_index(words, n, layer_id);
+    let index = widget_rows::next_index(words, n, w.layer_id);
     ids[n] = w.id;
     put_shared(words, n, w, index);
     put_half(words, rects, n, 0, w);
@@ -80,21 +71,23 @@ fn remove(ids: &mut [u64], words: &mut [u64], rects: &mut [f32], n: usize, k: us
 {
     tables::close(&mut ids[k..n], 1);
     widget_rows::take_out(&mut words[10 * k..10 * n], layer);
-    tables::close_floats(&mut rects[16 * k..16 * n], 16);
+    tables::close(&mut rects[16 * k..16 * n], 16);
 }
 
-fn full_refusal(found: Found, n: usize, room: usize) -> u64
+fn full_refusal(found: Option<usize>, n: usize, room: usize) -> u64
     ensures { result ≡ full_refusal found n room }
 {
-    match found {
-        Found::At(_) => NONE,
-        Found::Nothing => { if n < room { NONE } else { FULL } }
+    if found.is_some() || n < room {
+        NONE
+    } else {
+        FULL
     }
 }
 
 // ---- the calls
 
 // A known widget, whose record is joined; the row where it then stands.
+#[tactic(auto, using(widget_rows::proofs::Places::record_held), unfolding(crate::specs::Table::row_after, crate::specs::Table::joined_at, crate::specs::Table::put_half))]
 fn update(
     ids: &mut [u64],
     words: &mut [u64],
@@ -108,22 +101,20 @@ fn update(
     ensures { (result ≡ row_after n k (joined_at (rows_in ids.old words.old rects.old) k new) new move_to_top) × (rows_in ids.new words.new rects.new ≡ update_of (rows_in ids.old words.old rects.old) n k (joined_at (rows_in ids.old words.old rects.old) k new) new move_to_top) }
 {
     let w = widget_rows::record_or(ids, words, rects, k, new).joined(new);
-    let layer_id = w.layer_id;
-    let new_layer_id = new.layer_id;
-    if layer_id.is(new_layer_id) {
-        if move_to_top {
-            remove(ids, words, rects, n, k, layer_id);
-            push(ids, words, rects, n - 1, w);
-            return n - 1;
-        }
-        put_half(words, rects, k, 0, w);
-        put_half(words, rects, k, 1, w);
-        return k;
+    let in_its_list = w.layer_id.is(new.layer_id);
+    if in_its_list && move_to_top {
+        remove(ids, words, rects, n, k, w.layer_id);
+        push(ids, words, rects, n - 1, w);
+        return n - 1;
     }
     put_half(words, rects, k, 0, w);
+    if in_its_list {
+        put_half(words, rects, k, 1, w);
+    }
     k
 }
 
+#[tactic(auto, unfolding(crate::specs::Table::refusal_of, crate::specs::Table::insert_of, widget_rows::specs::Rows::found_in, widget_rows::specs::Rows::held_in))]
 pub fn insert(
     cells: &mut [u64],
     ids: &mut [u64],
@@ -137,18 +128,15 @@ pub fn insert(
     ensures { (result.refusal ≡ refusal_of (table_in count cells.old ids.old words.old rects.old) layer new) × (table_in result.count cells.new ids.new words.new rects.new ≡ insert_of (table_in count cells.old ids.old words.old rects.old) layer new move_to_top) }
 {
     let room = widget_rows::room(ids, words, rects);
-    let n = tables::fewer(count, room);
+    let n = count.min(room);
     let found = widget_rows::place(cells, ids, n, new.id);
     let refusal = refusal::lowest(new.insert_refusal(layer), full_refusal(found, n, room));
     if refusal != NONE {
-        return Inserted {
-            refusal: refusal,
-            count: count,
-        };
+        return Inserted { refusal, count };
     }
     let home = widget_rows::home(cells, new.id);
     match found {
-        Found::At(k) => {
+        Some(k) => {
             let row = update(ids, words, rects, n, k, new, move_to_top);
             tables::put_one(cells, home, row as u64 + 1);
             Inserted {
@@ -156,7 +144,7 @@ pub fn insert(
                 count: n,
             }
         }
-        Found::Nothing => {
+        None => {
             push(ids, words, rects, n, new);
             tables::put_one(cells, home, n as u64 + 1);
             Inserted {
@@ -171,6 +159,6 @@ pub fn insert(
 pub fn clear(cells: &mut [u64]) -> usize
     ensures { (result ≡ 0) × (cells.new ≡ cleared_cells cells.old) }
 {
-    tables::fill(cells, 0);
+    cells.fill(0);
     0
 }
