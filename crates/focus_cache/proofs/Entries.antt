@@ -1,6 +1,6 @@
 -- Laws of the entries that tables hold, of a list of entries on the first places of tables, and of an id in a list. Assumes nothing.
 use mathlib.Core.Path.{◌≡◌, refl, sym, ap, ◌∙◌}
-use mathlib.Core.Bool.{Bool, true, false, cond, or-true}
+use mathlib.Core.Bool.{Bool, true, false, cond, or-true, ◌||◌}
 use mathlib.Core.List.{List, [], ◌∷◌, ◌++◌, append-nil}
 use Prim.Native.Nat.{ℕ, zero, suc, ◌+◌, ◌*◌, ◌/◌, min, ◌<◌, ◌≤◌}
 use native.Mathlib.Numerals.{add-one}
@@ -8,6 +8,7 @@ use native.Mathlib.Omega.{arith}
 use lib.Dec.{eqb}
 use lib.Ieee.{Float, nan}
 use lib.ListN.{length, get_or, take, drop, length-map}
+use Rattle.std.specs.List.{list_any}
 use lib.Seq.{take-nil, take-suc, take-append_seam, length-take-le, get_or-take}
 use borrow.Author.Tests.{eq-eqb, ne_eqb, lt-ltb}
 use Rattle.tables.specs.declared.Found.TheVariants.{At, Nothing}
@@ -143,6 +144,11 @@ module _ (c : Cache) where
         rw (on_lengths.1, same (4 * i) (omega arith), same (4 * i + 1) (omega arith), same (4 * i + 2) (omega arith), same (4 * i + 3) (omega arith))
 
 -- ---- an id among the entries
+pub any_has : (l : List Candidate) (id : ℕ) → list_any (λ x. eqb x id) (ids_of l) ≡ has_id l id
+unfolding has_id
+any_has [] id = refl
+any_has (e ∷ l) id = ap (λ (t : Bool). eqb e.id id || t) (any_has l id)
+
 pub has_at : (l : List Candidate) (id i : ℕ) → i < length l → get_or (ids_of l) i 0 ≡ id → has_id l id ≡ true
 unfolding has_id
 has_at [] id i h q = absurd (omega arith)
