@@ -35,6 +35,7 @@ pub fn held(ids: &[u64], rects: &[f32], count: usize) -> usize
 }
 
 // Whether the cache holds an id.
+#[tactic(auto, using(crate::proofs::Calls::held_fits, crate::proofs::Calls::held_part))]
 pub fn contains(ids: &[u64], rects: &[f32], count: usize, id: u64) -> bool
     ensures { result ≡ has_id (held_in count ids.now rects.now) id }
 {

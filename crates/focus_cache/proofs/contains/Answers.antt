@@ -1,10 +1,7 @@
 -- `focus_cache::contains` meets its contract. Assumes nothing.
 use mathlib.Core.Path.{◌∙◌}
-use Rattle.focus_cache.proofs.Calls.{held_part, contains_part}
+use Rattle.focus_cache.proofs.Calls.{contains_part}
 use Rattle.focus_cache.proofs.contains.Goals as goal
-
-pub slice_bounds-contains-end : goal.slice_bounds-contains-end
-slice_bounds-contains-end c = search held_part
 
 pub returns : goal.returns
 returns c = c.contains.ensures.value ∙ contains_part _ _ _ _ c.held-n.ensures _
