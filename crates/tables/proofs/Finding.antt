@@ -2,6 +2,8 @@
 use mathlib.Core.Path.{◌≡◌, refl, sym, ◌∙◌}
 use mathlib.Core.Bool.{Bool, true, false, cond, ◌&&◌, and-false, true≢false}
 use mathlib.Core.List.{List, [], ◌∷◌}
+use Rattle.std.specs.Prelude.{Option, None, Some}
+use Rattle.std.specs.Option.{option_or}
 use Prim.Native.Nat.{ℕ, zero, suc, ◌+◌, ◌-◌, min, ◌<◌, ◌≤◌}
 use native.Mathlib.Decide.{dec_lt, ℕ_discrete}
 use native.Mathlib.Nat.{not-suc-le-zero, le_of_suc-le-suc, zero-min}
@@ -11,17 +13,15 @@ use lib.Dec.{ltb, eqb}
 use lib.ListN.{length, get_or, drop, drop_of_length-le, length-drop}
 use lib.Seq.{drop-cons, get_or-drop}
 use borrow.Author.Tests.{ltb-true, eqb-true, eq-eqb, ne_eqb, lt-ltb, le-ltb}
-use Rattle.tables.specs.Tables.{first_from, last_below, or_else, nearest, after}
-use Rattle.tables.specs.declared.Found.{Found}
-use Rattle.tables.specs.declared.Found.TheVariants.{At, Nothing}
+use Rattle.tables.specs.Tables.{first_from, last_below, nearest, after}
 
 -- ---- the search from i on, as its loop makes it
 module _ (xs : List ℕ) (i x : ℕ) where
-  pub find_past : length xs ≤ i → first_from i (drop i xs) x ≡ Nothing
+  pub find_past : length xs ≤ i → first_from i (drop i xs) x ≡ None
   unfolding first_from
   find_past h = rw (drop_of_length-le xs h)
 
-  pub find_here : i < length xs → get_or xs i 0 ≡ x → first_from i (drop i xs) x ≡ At i
+  pub find_here : i < length xs → get_or xs i 0 ≡ x → first_from i (drop i xs) x ≡ Some i
   unfolding first_from
   find_here h e = rw (drop-cons xs i 0 h, eq-eqb (get_or xs i 0) x e)
 
@@ -30,36 +30,36 @@ module _ (xs : List ℕ) (i x : ℕ) where
   find_more h e = rw (add-one, drop-cons xs i 0 h, ne_eqb (get_or xs i 0) x e)
 
 -- ---- what is found stands there
-from_at : (i : ℕ) (xs : List ℕ) (x k : ℕ) → first_from i xs x ≡ At k → (n : ℕ) × (k ≡ i + n) × (n < length xs) × (get_or xs n 0 ≡ x)
+from_at : (i : ℕ) (xs : List ℕ) (x k : ℕ) → first_from i xs x ≡ Some k → (n : ℕ) × (k ≡ i + n) × (n < length xs) × (get_or xs n 0 ≡ x)
 unfolding first_from
 from_at i [] x k e = let z : ◌≡◌ {A = ℕ} 0 1 = cc in absurd (omega arith)
 from_at i (y ∷ ys) x k e = go (eqb y x) refl e (from_at (suc i) ys x k)
   where
-    go : (t : Bool) → eqb y x ≡ t → cond t (At i) (first_from (suc i) ys x) ≡ At k
-        → (first_from (suc i) ys x ≡ At k → (n : ℕ) × (k ≡ suc i + n) × (n < length ys) × (get_or ys n 0 ≡ x))
+    go : (t : Bool) → eqb y x ≡ t → cond t (Some i) (first_from (suc i) ys x) ≡ Some k
+        → (first_from (suc i) ys x ≡ Some k → (n : ℕ) × (k ≡ suc i + n) × (n < length ys) × (get_or ys n 0 ≡ x))
         → (n : ℕ) × (k ≡ i + n) × (n < length (y ∷ ys)) × (get_or (y ∷ ys) n 0 ≡ x)
     go true t e rest = let p : i ≡ k = cc in (0, omega arith, omega arith, eqb-true y x t)
     go false t e rest = let (n, p, h, q) = rest e in (suc n, omega arith, omega arith, q)
 
 -- ---- where nothing is found, it stands nowhere
-from_none : (j : ℕ) (xs : List ℕ) (x i : ℕ) → first_from j xs x ≡ Nothing → i < length xs → (get_or xs i 0 ≡ x → ⊥)
+from_none : (j : ℕ) (xs : List ℕ) (x i : ℕ) → first_from j xs x ≡ None → i < length xs → (get_or xs i 0 ≡ x → ⊥)
 unfolding first_from
 from_none j [] x i e h q = not-suc-le-zero h
 from_none j (y ∷ ys) x zero e h q = let z : ◌≡◌ {A = ℕ} 0 1 = cc (eq-eqb y x q) in omega arith
 from_none j (y ∷ ys) x (suc i) e h q = from_none (suc j) ys x i (go (eqb y x) e) (le_of_suc-le-suc h) q
   where
-    go : (t : Bool) → cond t (At j) (first_from (suc j) ys x) ≡ Nothing → first_from (suc j) ys x ≡ Nothing
+    go : (t : Bool) → cond t (Some j) (first_from (suc j) ys x) ≡ None → first_from (suc j) ys x ≡ None
     go true e = cc
     go false e = e
 
 -- ---- the search below n, as its loop makes it
 module _ (xs : List ℕ) (x : ℕ) where
-  pub below_none : (n : ℕ) → (0 < n → ⊥) → last_below xs n x ≡ Nothing
+  pub below_none : (n : ℕ) → (0 < n → ⊥) → last_below xs n x ≡ None
   unfolding last_below
   below_none zero h = refl
   below_none (suc n) h = absurd (h (omega arith))
 
-  pub below_here : (n : ℕ) → 0 < n → n ≤ length xs → get_or xs (n - 1) 0 ≡ x → last_below xs n x ≡ At (n - 1)
+  pub below_here : (n : ℕ) → 0 < n → n ≤ length xs → get_or xs (n - 1) 0 ≡ x → last_below xs n x ≡ Some (n - 1)
   unfolding last_below
   below_here zero p h e = absurd (omega arith)
   below_here (suc n) p h e =
@@ -87,57 +87,39 @@ module _ (xs : List ℕ) (x : ℕ) where
 
 -- ---- what is found below n stands there, and else it stands nowhere below n
 module _ (xs : List ℕ) (x : ℕ) where
-  pub last_at : (n k : ℕ) → last_below xs n x ≡ At k → (k < n) × (k < length xs) × (get_or xs k 0 ≡ x)
+  pub last_at : (n k : ℕ) → last_below xs n x ≡ Some k → (k < n) × (k < length xs) × (get_or xs k 0 ≡ x)
   unfolding last_below
   last_at zero k e = let z : ◌≡◌ {A = ℕ} 0 1 = cc in absurd (omega arith)
   last_at (suc n) k e = go (ltb n (length xs)) (eqb (get_or xs n 0) x) refl refl e (last_at n k)
     where
-      go : (s t : Bool) → ltb n (length xs) ≡ s → eqb (get_or xs n 0) x ≡ t → cond (s && t) (At n) (last_below xs n x) ≡ At k
-          → (last_below xs n x ≡ At k → (k < n) × (k < length xs) × (get_or xs k 0 ≡ x)) → (k < suc n) × (k < length xs) × (get_or xs k 0 ≡ x)
+      go : (s t : Bool) → ltb n (length xs) ≡ s → eqb (get_or xs n 0) x ≡ t → cond (s && t) (Some n) (last_below xs n x) ≡ Some k
+          → (last_below xs n x ≡ Some k → (k < n) × (k < length xs) × (get_or xs k 0 ≡ x)) → (k < suc n) × (k < length xs) × (get_or xs k 0 ≡ x)
       go true true p q e rest = let r : n ≡ k = cc in rw (← r) (omega arith, ltb-true n (length xs) p, eqb-true (get_or xs n 0) x q)
       go true false p q e rest = let (l, h, q) = rest e in (omega arith, h, q)
       go false t p q e rest = let (l, h, q) = rest e in (omega arith, h, q)
 
-  pub last_none : (n i : ℕ) → last_below xs n x ≡ Nothing → i < n → i < length xs → (get_or xs i 0 ≡ x → ⊥)
+  pub last_none : (n i : ℕ) → last_below xs n x ≡ None → i < n → i < length xs → (get_or xs i 0 ≡ x → ⊥)
   unfolding last_below
   last_none zero i e l h q = not-suc-le-zero l
   last_none (suc n) i e l h q = go (ltb n (length xs)) (eqb (get_or xs n 0) x) refl refl e (ℕ_discrete i n) (last_none n i)
     where
-      go : (s t : Bool) → ltb n (length xs) ≡ s → eqb (get_or xs n 0) x ≡ t → cond (s && t) (At n) (last_below xs n x) ≡ Nothing → Dec (i ≡ n)
-          → (last_below xs n x ≡ Nothing → i < n → i < length xs → (get_or xs i 0 ≡ x → ⊥)) → ⊥
+      go : (s t : Bool) → ltb n (length xs) ≡ s → eqb (get_or xs n 0) x ≡ t → cond (s && t) (Some n) (last_below xs n x) ≡ None → Dec (i ≡ n)
+          → (last_below xs n x ≡ None → i < n → i < length xs → (get_or xs i 0 ≡ x → ⊥)) → ⊥
       go true true p r e d rest = let z : ◌≡◌ {A = ℕ} 0 1 = cc in omega arith
       go true false p r e (yes d) rest = let z : ◌≡◌ {A = Bool} true false = sym (eq-eqb (get_or xs n 0) x (rw d at q)) ∙ r in true≢false z
       go true false p r e (no d) rest = rest e (omega arith) h q
       go false t p r e (yes d) rest = let z : ◌≡◌ {A = Bool} true false = sym (lt-ltb n (length xs) (rw d at h)) ∙ p in true≢false z
       go false t p r e (no d) rest = rest e (omega arith) h q
 
--- ---- the two ways of `find` and of `find_after`
-module _ (xs : List ℕ) (n x : ℕ) (f g : Found) where
-  pub near_below : (k : ℕ) → f ≡ last_below xs n x → f ≡ At k → At k ≡ nearest xs n x
-  unfolding nearest
-  near_below k p e = rw (← p, e)
-
-  pub near_from : f ≡ last_below xs n x → f ≡ Nothing → g ≡ first_from n (drop n xs) x → g ≡ nearest xs n x
-  unfolding nearest
-  near_from p e q = rw (← p, e, q)
-
-  pub after_from : (k : ℕ) → f ≡ first_from n (drop n xs) x → f ≡ At k → At k ≡ after xs n x
-  unfolding after
-  after_from k p e = rw (← p, e)
-
-  pub after_below : f ≡ first_from n (drop n xs) x → f ≡ Nothing → g ≡ last_below xs n x → g ≡ after xs n x
-  unfolding after
-  after_below p e q = rw (← p, e, q)
-
 -- ---- what either finds stands there, and else it stands nowhere
 module _ (xs : List ℕ) (n x : ℕ) where
-  found_from : (k : ℕ) → first_from n (drop n xs) x ≡ At k → (k < length xs) × (get_or xs k 0 ≡ x)
+  found_from : (k : ℕ) → first_from n (drop n xs) x ≡ Some k → (k < length xs) × (get_or xs k 0 ≡ x)
   found_from k e =
       let (m, q, h, r) = from_at n (drop n xs) x k e in
       rw q (omega (arith, length-drop n xs), rw get_or-drop at r)
 
   -- it is neither below n nor from n on
-  nowhere : (i : ℕ) → last_below xs n x ≡ Nothing → first_from n (drop n xs) x ≡ Nothing → i < length xs → (get_or xs i 0 ≡ x → ⊥)
+  nowhere : (i : ℕ) → last_below xs n x ≡ None → first_from n (drop n xs) x ≡ None → i < length xs → (get_or xs i 0 ≡ x → ⊥)
   nowhere i p e h q = go (dec_lt i n)
     where
       go : Dec (i < n) → ⊥
@@ -146,34 +128,34 @@ module _ (xs : List ℕ) (n x : ℕ) where
           let a : n + (i - n) ≡ i = omega arith in
           from_none n (drop n xs) x (i - n) e (omega (arith, length-drop n xs)) (get_or-drop n xs (i - n) 0 ∙ rw a q)
 
-  pub nearest_at : (k : ℕ) → nearest xs n x ≡ At k → (k < length xs) × (get_or xs k 0 ≡ x)
+  pub nearest_at : (k : ℕ) → nearest xs n x ≡ Some k → (k < length xs) × (get_or xs k 0 ≡ x)
   unfolding nearest
   nearest_at k e = go (last_below xs n x) refl e
     where
-      go : (f : Found) → last_below xs n x ≡ f → or_else f (first_from n (drop n xs) x) ≡ At k → (k < length xs) × (get_or xs k 0 ≡ x)
-      go (At j) p e = let (_, h, q) = last_at xs x n k (p ∙ e) in (h, q)
-      go Nothing p e = found_from k e
+      go : (f : Option ℕ) → last_below xs n x ≡ f → option_or f (first_from n (drop n xs) x) ≡ Some k → (k < length xs) × (get_or xs k 0 ≡ x)
+      go (Some j) p e = let (_, h, q) = last_at xs x n k (p ∙ e) in (h, q)
+      go None p e = found_from k e
 
-  pub nearest_none : (i : ℕ) → nearest xs n x ≡ Nothing → i < length xs → (get_or xs i 0 ≡ x → ⊥)
+  pub nearest_none : (i : ℕ) → nearest xs n x ≡ None → i < length xs → (get_or xs i 0 ≡ x → ⊥)
   unfolding nearest
   nearest_none i e h q = go (last_below xs n x) refl e
     where
-      go : (f : Found) → last_below xs n x ≡ f → or_else f (first_from n (drop n xs) x) ≡ Nothing → ⊥
-      go (At j) p e = let z : ◌≡◌ {A = ℕ} 0 1 = cc in omega arith
-      go Nothing p e = nowhere i p e h q
+      go : (f : Option ℕ) → last_below xs n x ≡ f → option_or f (first_from n (drop n xs) x) ≡ None → ⊥
+      go (Some j) p e = let z : ◌≡◌ {A = ℕ} 0 1 = cc in omega arith
+      go None p e = nowhere i p e h q
 
-  pub after_at : (k : ℕ) → after xs n x ≡ At k → (k < length xs) × (get_or xs k 0 ≡ x)
+  pub after_at : (k : ℕ) → after xs n x ≡ Some k → (k < length xs) × (get_or xs k 0 ≡ x)
   unfolding after
   after_at k e = go (first_from n (drop n xs) x) refl e
     where
-      go : (f : Found) → first_from n (drop n xs) x ≡ f → or_else f (last_below xs n x) ≡ At k → (k < length xs) × (get_or xs k 0 ≡ x)
-      go (At j) p e = found_from k (p ∙ e)
-      go Nothing p e = let (_, h, q) = last_at xs x n k e in (h, q)
+      go : (f : Option ℕ) → first_from n (drop n xs) x ≡ f → option_or f (last_below xs n x) ≡ Some k → (k < length xs) × (get_or xs k 0 ≡ x)
+      go (Some j) p e = found_from k (p ∙ e)
+      go None p e = let (_, h, q) = last_at xs x n k e in (h, q)
 
-  pub after_none : (i : ℕ) → after xs n x ≡ Nothing → i < length xs → (get_or xs i 0 ≡ x → ⊥)
+  pub after_none : (i : ℕ) → after xs n x ≡ None → i < length xs → (get_or xs i 0 ≡ x → ⊥)
   unfolding after
   after_none i e h q = go (first_from n (drop n xs) x) refl e
     where
-      go : (f : Found) → first_from n (drop n xs) x ≡ f → or_else f (last_below xs n x) ≡ Nothing → ⊥
-      go (At j) p e = let z : ◌≡◌ {A = ℕ} 0 1 = cc in omega arith
-      go Nothing p e = nowhere i e p h q
+      go : (f : Option ℕ) → first_from n (drop n xs) x ≡ f → option_or f (last_below xs n x) ≡ None → ⊥
+      go (Some j) p e = let z : ◌≡◌ {A = ℕ} 0 1 = cc in omega arith
+      go None p e = nowhere i e p h q

@@ -1,29 +1,24 @@
 -- Tables in slices, for the maps and lists that document 01 turns into fixed tables ("Maps and sets"). Definitions only.
-use Rattle.std.specs.Prelude.{ℕ, zero, suc, ◌+◌, ◌-◌, ◌*◌, cond, ◌&&◌, List, [], ◌∷◌, ◌++◌, eqb, ltb, leb, length, get_or, take, drop}
-use Rattle.tables.specs.declared.Found.{Found}
-use Rattle.tables.specs.declared.Found.TheVariants.{At, Nothing}
+use Rattle.std.specs.Prelude.{Option, None, Some, ℕ, zero, suc, ◌+◌, ◌-◌, ◌*◌, cond, ◌&&◌, List, [], ◌∷◌, ◌++◌, eqb, ltb, leb, length, get_or, take, drop}
+use Rattle.std.specs.Option.{option_or}
 
 -- ---- the first place of a number, counted from i on
-unfoldable pub first_from : ℕ → List ℕ → ℕ → Found
-first_from i [] x = Nothing
-first_from i (y ∷ ys) x = cond (eqb y x) (At i) (first_from (suc i) ys x)
+unfoldable pub first_from : ℕ → List ℕ → ℕ → Option ℕ
+first_from i [] x = None
+first_from i (y ∷ ys) x = cond (eqb y x) (Some i) (first_from (suc i) ys x)
 
 -- ---- the last place of a number below n
-unfoldable pub last_below : List ℕ → ℕ → ℕ → Found
-last_below xs zero x = Nothing
-last_below xs (suc n) x = cond (ltb n (length xs) && eqb (get_or xs n 0) x) (At n) (last_below xs n x)
+unfoldable pub last_below : List ℕ → ℕ → ℕ → Option ℕ
+last_below xs zero x = None
+last_below xs (suc n) x = cond (ltb n (length xs) && eqb (get_or xs n 0) x) (Some n) (last_below xs n x)
 
 -- ---- the last place of a number below n, or else the first from n on
-abbrev pub or_else : Found → Found → Found
-or_else (At k) f = At k
-or_else Nothing f = f
-
-unfoldable pub nearest : List ℕ → ℕ → ℕ → Found
-nearest xs n x = or_else (last_below xs n x) (first_from n (drop n xs) x)
+unfoldable pub nearest : List ℕ → ℕ → ℕ → Option ℕ
+nearest xs n x = option_or (last_below xs n x) (first_from n (drop n xs) x)
 
 -- ---- the first place of a number from n on, or else the last below n
-unfoldable pub after : List ℕ → ℕ → ℕ → Found
-after xs n x = or_else (first_from n (drop n xs) x) (last_below xs n x)
+unfoldable pub after : List ℕ → ℕ → ℕ → Option ℕ
+after xs n x = option_or (first_from n (drop n xs) x) (last_below xs n x)
 
 module _ {A : Type 0} where
   -- ---- a row put at a place, where all of it fits

@@ -4,15 +4,14 @@ use Rattle.tables.proofs.Finding.{below_none, below_here, below_more, below_end}
 use Rattle.tables.proofs.find_below.Goals as goal
 
 pub loop-i-init : goal.loop-i-init
-loop-i-init c = (omega arith, rw c.fewer-i.ensures (below_end _ _ _))
+loop-i-init c = rw c.fewer-i.ensures (below_end _ _ _)
 
 pub returns-then-xs-i : goal.returns-then-xs-i
 returns-then-xs-i c =
-    sym (c.loop-i.invariant.1 ∙ below_here c.args.xs.now c.args.x c.loop-i.i (omega arith) c.loop-i.invariant.0 c.if-xs-i.true)
+    sym (c.loop-i.invariant ∙ below_here c.args.xs.now c.args.x c.loop-i.i (omega arith) (omega arith) c.if-xs-i.true)
 
 pub loop-i-preserved : goal.loop-i-preserved
-loop-i-preserved c =
-    (omega arith, c.loop-i.invariant.1 ∙ below_more c.args.xs.now c.args.x c.loop-i.i (omega arith) c.if-xs-i.false)
+loop-i-preserved c = c.loop-i.invariant ∙ below_more c.args.xs.now c.args.x c.loop-i.i (omega arith) c.if-xs-i.false
 
 pub returns : goal.returns
-returns c = sym (c.loop-i.invariant.1 ∙ below_none _ _ _ (omega arith))
+returns c = sym (c.loop-i.invariant ∙ below_none _ _ _ (omega arith))

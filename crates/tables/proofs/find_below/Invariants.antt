@@ -1,12 +1,7 @@
--- `tables::find_below` meets its contract. The invariant: the place found below i is the place found below n. Assumes nothing.
-use mathlib.Core.Path.{◌≡◌}
-use Prim.Native.Nat.{◌≤◌}
-use lib.ListN.{length}
+-- The place found below here is the place found below n.
+use Rattle.std.proofs.Common.{◌≡◌}
 use Rattle.tables.specs.Tables.{last_below}
 use Rattle.tables.proofs.find_below.Given as goal
 
 abbrev pub invariant-loop-i : goal.invariant-loop-i
-invariant-loop-i l = (l.i ≤ length l.xs) × (last_below l.xs l.n l.x ≡ last_below l.xs l.i l.x)
-
-abbrev pub decreases-loop-i : goal.decreases-loop-i
-decreases-loop-i l = l.i
+invariant-loop-i l = last_below l.xs l.n l.x ≡ last_below l.xs l.i l.x
