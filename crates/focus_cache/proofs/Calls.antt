@@ -7,14 +7,13 @@ use native.Mathlib.Numerals.{add-one}
 use native.Mathlib.Omega.{arith}
 use lib.Ieee.{Float}
 use lib.ListN.{length, get_or, take, length-append, length-take}
+use Rattle.std.specs.Prelude.{Option, None, Some}
 use Rattle.std.specs.List.{list_any}
 use lib.Dec.{eqb}
 use lib.Seq.{take_all, length-take-le}
 use borrow.Author.Tests.{lt-ltb, le-ltb}
 use Rattle.emath.specs.declared.Rect.{Rect}
 use Rattle.emath.specs.Rect.{everything}
-use Rattle.tables.specs.declared.Found.{Found}
-use Rattle.tables.specs.declared.Found.TheVariants.{At, Nothing}
 use Rattle.tables.specs.Tables.{after}
 use Rattle.search.specs.declared.Candidate.{Candidate}
 use Rattle.focus_cache.specs.declared.Enlisted.{Enlisted}
@@ -53,24 +52,24 @@ module _ (count : ℕ) (ids : List ℕ) (rects : List Float) (slot id : ℕ) whe
   abbrev after_it : Cache
   after_it = cache_on (cache_in ids rects) (enlisted (held_in count ids rects) id)
 
-  module _ (n : ℕ) (e : n ≡ length (held_in count ids rects)) (f : Found) (p : f ≡ after (take n ids) slot id) where
+  module _ (n : ℕ) (e : n ≡ length (held_in count ids rects)) (f : Option ℕ) (p : f ≡ after (take n ids) slot id) where
     sought : after (ids_of entries) slot id ≡ f
     sought = rw (← part_ids count ids rects n e) (sym p)
 
-    pub slot_fits : (k : ℕ) → f ≡ At k → k < length ids
+    pub slot_fits : (k : ℕ) → f ≡ Some k → k < length ids
     slot_fits k q = omega (arith, held_fits count ids rects n e, (after_has entries id slot k (sought ∙ q)).0)
 
-    pub old_answer : (k : ℕ) → f ≡ At k → record { refusal = 0; count = n; slot = k + 1 } ≡ answer
+    pub old_answer : (k : ℕ) → f ≡ Some k → record { refusal = 0; count = n; slot = k + 1 } ≡ answer
     unfolding enlisted_of full_refusal enlisted slot_after
     old_answer k q =
         let b = held_length count ids rects in
         rw ((after_has entries id slot k (sought ∙ q)).1, le-ltb (room_in ids rects) (length entries) (omega arith), sought, q, ← e, add-one)
 
-    pub old_cache : (k : ℕ) → f ≡ At k → cache_in ids rects ≡ after_it
+    pub old_cache : (k : ℕ) → f ≡ Some k → cache_in ids rects ≡ after_it
     unfolding enlisted
     old_cache k q = rw (after_has entries id slot k (sought ∙ q)).1 (sym (on_held count ids rects))
 
-    module _ (q : f ≡ Nothing) (room : ℕ) (r : room ≡ room_in ids rects) where
+    module _ (q : f ≡ None) (room : ℕ) (r : room ≡ room_in ids rects) where
       abbrev new : Candidate
       new = record { id = id; rect = everything }
 

@@ -10,7 +10,6 @@ ghost use Rattle.focus_cache.specs.Cache.{room_in, held_in, has_id, without, enl
 
 use emath::{Pos2, Rect};
 use refusal::{FULL, NONE};
-use tables::Found;
 
 // A refusal, how many entries are held, and the place where the next call looks first.
 #[derive(Clone, Copy)]
@@ -51,7 +50,7 @@ pub fn put(ids: &mut [u64], rects: &mut [f32], k: usize, id: u64, rect: Rect)
     if k < room(ids, rects) {
         ids[k] = id;
         let row = [rect.min.x, rect.min.y, rect.max.x, rect.max.y];
-        tables::put_floats(rects, 4 * k, &row);
+        tables::put(rects, 4 * k, &row);
     }
 }
 
@@ -61,12 +60,12 @@ pub fn enlist(ids: &mut [u64], rects: &mut [f32], count: usize, slot: usize, id:
 {
     let n = held(ids, rects, count);
     match tables::find_after(&ids[..n], slot, id) {
-        Found::At(k) => Enlisted {
+        Some(k) => Enlisted {
             refusal: NONE,
             count: n,
             slot: k + 1,
         },
-        Found::Nothing if n < room(ids, rects) => {
+        None if n < room(ids, rects) => {
             put(ids, rects, n, id, Rect::everything());
             Enlisted {
                 refusal: NONE,
@@ -74,7 +73,7 @@ pub fn enlist(ids: &mut [u64], rects: &mut [f32], count: usize, slot: usize, id:
                 slot: n + 1,
             }
         }
-        Found::Nothing => Enlisted {
+        None => Enlisted {
             refusal: FULL,
             count,
             slot,
