@@ -52,13 +52,8 @@ fn keep(
     let id = ids[i];
     match tables::find_after(used, so_far.next, id) {
         Some(k) => {
-            focus_cache::put(
-                ids,
-                rects,
-                so_far.count,
-                id,
-                focus_cache::rect_at(corners, k),
-            );
+            let rect = focus_cache::rect_at(corners, k);
+            focus_cache::put(ids, rects, so_far.count, id, rect);
             Kept {
                 count: so_far.count + 1,
                 next: k + 1,

@@ -10,7 +10,7 @@ overflow_add-result-in-Some c =
 
 pub returns-in-Some : goal.returns-in-Some
 returns-in-Some c =
-    keeps _ _ _ _ _ c.in-Some.ensures _ _ c.requires.0 c.requires.1 _ _ _ refl c.rect_at.ensures c.put.ensures
+    keeps _ _ _ _ _ c.in-Some.ensures _ _ c.requires.0 c.requires.1 _ _ _ refl c.rect_at-rect.ensures c.put.ensures
 
 pub returns-in-None : goal.returns-in-None
 returns-in-None c = leaves_out _ _ _ _ _ c.in-None.ensures _ _ refl
