@@ -1,13 +1,13 @@
 -- Interest calls for a page: one more, and the loop over them. Assumes nothing.
-use mathlib.Core.Path.{◌≡◌, refl, ap, sym, ◌∙◌}
-use mathlib.Core.List.{List, [], ◌∷◌}
-use Prim.Native.Nat.{ℕ, suc, ◌+◌, ◌<◌, ◌≤◌}
+use mathlib.Core.Path.{◌≡◌, ap, sym, ◌∙◌}
+use mathlib.Core.List.{List, ◌∷◌}
+use Prim.Native.Nat.{ℕ, ◌+◌, ◌<◌, ◌≤◌}
 use native.Mathlib.Numerals.{add-one}
 use lib.Ieee.{Float}
 use lib.ListN.{length, get_or, drop, drop_of_length-le}
 use lib.Seq.{drop-cons}
 use Rattle.refusal.specs.Refusal.{lowest, kept}
-use Rattle.focus_cache.specs.Cache.{Cache, cache_in, cache_on, room_in, held_in, enlisted}
+use Rattle.focus_cache.specs.Cache.{cache_in, cache_on, room_in, held_in, enlisted}
 use Rattle.focus_pass.specs.declared.Interested.{Interested}
 use Rattle.focus_pass.specs.Pass.{interest_of}
 use Rattle.board_page.specs.Page.{Page, page_in, wanted, wanted_all}

@@ -1,7 +1,6 @@
 -- Interest calls for the ids of a page, one after the other, as `focus_pass` answers each. Definitions only.
 use Rattle.std.specs.Prelude.{ℕ, List, [], ◌∷◌, Float}
 use Rattle.refusal.specs.Refusal.{lowest, kept}
-use Rattle.search.specs.declared.Candidate.{Candidate}
 use Rattle.focus_rules.specs.declared.Nav.{Nav}
 use Rattle.focus_cache.specs.Cache.{Cache, cache_in, cache_on, room_in, held_in, enlisted}
 use Rattle.focus_pass.specs.declared.Interested.{Interested}

@@ -12,14 +12,10 @@ use refusal::NONE;
 fn want(so_far: Interested, ids: &mut [u64], rects: &mut [f32], id: u64) -> Interested
     ensures { page_in result ids.new rects.new ≡ wanted (page_in so_far ids.old rects.old) id }
 {
-    let nav = so_far.nav;
-    let r = focus_pass::interested_in_focus(nav, ids, rects, so_far.count, so_far.slot, id);
-    let next = r.nav;
+    let r = focus_pass::interested_in_focus(so_far.nav, ids, rects, so_far.count, so_far.slot, id);
     Interested {
         refusal: refusal::lowest(so_far.refusal, r.refusal),
-        nav: next,
-        count: r.count,
-        slot: r.slot,
+        ..r
     }
 }
 
@@ -37,14 +33,12 @@ pub extern "C" fn jaturemi_interested_in_all(
 {
     let mut so_far = Interested {
         refusal: NONE,
-        nav: nav,
-        count: count,
-        slot: slot,
+        nav,
+        count,
+        slot,
     };
-    let mut i: usize = 0;
-    while i < page.len() {
-        so_far = want(so_far, ids, rects, page[i]);
-        i += 1;
+    for &id in page {
+        so_far = want(so_far, ids, rects, id);
     }
     so_far
 }

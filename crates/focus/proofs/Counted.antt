@@ -1,5 +1,5 @@
 -- The events or used entries of an array with a count are those of the part that is lent; a count past its end is too many. Assumes nothing.
-use mathlib.Core.Path.{◌≡◌, refl, sym, ap, ◌∙◌}
+use mathlib.Core.Path.{◌≡◌, refl, ap, ◌∙◌}
 use mathlib.Core.List.{List, ◌∷◌}
 use mathlib.Core.Bool.{true}
 use Prim.Native.Nat.{ℕ, zero, suc, ◌+◌, ◌*◌, ◌/◌, ◌%◌, ◌≤◌, ◌<◌}
@@ -9,7 +9,6 @@ use lib.ListN.{length, get_or, take}
 use lib.Seq.{get_or-take, length-take-le}
 use borrow.Author.Tests.{eq-eqb, lt-ltb, le-ltb}
 use Rattle.refusal.specs.Refusal.{bad_list, kept}
-use Rattle.input.specs.declared.Event.{Event}
 use Rattle.focus_rules.specs.declared.Changed.{Changed}
 use Rattle.focus_pass.specs.Events.{missing, event_at, events_from, count_in, events_in}
 use Rattle.focus_pass.specs.Pass.{begin_refusal, begin_of}

@@ -1,5 +1,5 @@
 -- Focus of memory/mod.rs as a record by value: what each call leaves, by the definitions of the crates below. Definitions only.
-use Rattle.std.specs.Prelude.{ℕ, ◌*◌, cond, List, ltb, length, take, replicate}
+use Rattle.std.specs.Prelude.{ℕ, ◌*◌, cond, List, ltb, take, replicate}
 use Rattle.std.specs.Float.{binary32}
 use Rattle.std.specs.Float.Ieee.{of_bits}
 use Rattle.refusal.specs.Refusal.{bad_list, id_refusal, code_refusal, kept}

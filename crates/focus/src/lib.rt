@@ -7,7 +7,7 @@ ghost use Rattle.layer_queries.specs.Queries.{flag_answer};
 ghost use Rattle.focus_rules.specs.Rules.{id_or_nothing, layer_or_nothing};
 ghost use Rattle.focus.specs.Focus.{new_focus, with_nav, begun_of, interested_of, ended_of, ignored_of, modal_set, requested, requested_next, surrendered, filter_set, moved};
 
-use focus_rules::{Changed, IdAnswer, Nav};
+use focus_rules::{Changed, Nav};
 use input::EventFilter;
 use layer_queries::{FlagAnswer, LayerAnswer};
 use layers::LayerId;
@@ -52,13 +52,11 @@ pub struct Done {
 // ---- begin, interest and end by value
 
 // A begin that is taken starts over.
+#[tactic(auto, using(crate::proofs::Packed::not_zero))]
 fn slot_after(refusal: u64, slot: usize) -> usize
     ensures { result ≡ kept refusal slot 0 }
 {
-    if refusal == NONE {
-        return 0;
-    }
-    slot
+    if refusal == NONE { 0 } else { slot }
 }
 
 pub fn begun(f: Focus, e: Events) -> Done
@@ -70,47 +68,35 @@ pub fn begun(f: Focus, e: Events) -> Done
             refusal: BAD_LIST,
         };
     }
-    let nav = f.nav;
-    let ids = f.ids;
-    let rects = f.rects;
-    let words = e.words;
-    let r = focus_pass::begin_pass(nav, &ids, &rects, f.count, &words[..4 * e.count]);
-    let next = r.nav;
+    let r = focus_pass::begin_pass(f.nav, &f.ids, &f.rects, f.count, &e.words[..4 * e.count]);
     let focus = Focus {
-        nav: next,
-        ids: ids,
-        rects: rects,
-        count: f.count,
+        nav: r.nav,
         slot: slot_after(r.refusal, f.slot),
+        ..f
     };
     Done {
-        focus: focus,
+        focus,
         refusal: r.refusal,
     }
 }
 
-pub fn interested(f: Focus, id: u64) -> Done
+pub fn interested(mut f: Focus, id: u64) -> Done
     ensures { result ≡ interested_of f id }
 {
-    let nav = f.nav;
-    let mut ids = f.ids;
-    let mut rects = f.rects;
-    let r = focus_pass::interested_in_focus(nav, &mut ids, &mut rects, f.count, f.slot, id);
-    let next = r.nav;
+    let r = focus_pass::interested_in_focus(f.nav, &mut f.ids, &mut f.rects, f.count, f.slot, id);
     let focus = Focus {
-        nav: next,
-        ids: ids,
-        rects: rects,
+        nav: r.nav,
         count: r.count,
         slot: r.slot,
+        ..f
     };
     Done {
-        focus: focus,
+        focus,
         refusal: r.refusal,
     }
 }
 
-pub fn ended(f: Focus, u: Used) -> Done
+pub fn ended(mut f: Focus, u: Used) -> Done
     ensures { result ≡ ended_of f u }
 {
     if USED < u.count {
@@ -119,30 +105,22 @@ pub fn ended(f: Focus, u: Used) -> Done
             refusal: BAD_LIST,
         };
     }
-    let nav = f.nav;
-    let mut ids = f.ids;
-    let mut rects = f.rects;
-    let used = u.ids;
-    let corners = u.corners;
     let r = focus_end::end_pass(
-        nav,
-        &mut ids,
-        &mut rects,
+        f.nav,
+        &mut f.ids,
+        &mut f.rects,
         f.count,
-        &used[..u.count],
-        &corners,
+        &u.ids[..u.count],
+        &u.corners,
         USED,
     );
-    let next = r.nav;
     let focus = Focus {
-        nav: next,
-        ids: ids,
-        rects: rects,
+        nav: r.nav,
         count: r.count,
-        slot: f.slot,
+        ..f
     };
     Done {
-        focus: focus,
+        focus,
         refusal: r.refusal,
     }
 }
@@ -176,6 +154,7 @@ pub fn focus_end_pass(f: &mut Focus, u: Used) -> u64
 // ---- the other methods
 
 impl Focus {
+    #[tactic(auto, unfolding(crate::specs::Focus::new_focus))]
     pub fn new() -> Focus
         ensures { result ≡ new_focus }
     {
@@ -192,20 +171,16 @@ impl Focus {
     fn with(self, r: Changed) -> Done
         ensures { result ≡ with_nav self r }
     {
-        let nav = r.nav;
-        let mut focus = self;
-        focus.nav = nav;
         Done {
-            focus: focus,
+            focus: Focus { nav: r.nav, ..self },
             refusal: r.refusal,
         }
     }
 
-    pub fn focused(self) -> IdAnswer
+    pub fn focused(self) -> Option<u64>
         ensures { result ≡ id_or_nothing self.nav.focused }
     {
-        let nav = self.nav;
-        focus_calls::focused(nav)
+        focus_calls::focused(self.nav)
     }
 
     pub fn focus_direction(self) -> u64
@@ -217,76 +192,68 @@ impl Focus {
     pub fn had_focus_last_frame(self, id: u64) -> FlagAnswer
         ensures { result ≡ flag_answer (id_refusal id) (eqb self.nav.id_previous_frame id) }
     {
-        let nav = self.nav;
-        focus_calls::had_focus_last_frame(nav, id)
+        focus_calls::had_focus_last_frame(self.nav, id)
     }
 
     pub fn top_modal_layer(self) -> LayerAnswer
         ensures { result ≡ layer_or_nothing self.nav.top_modal_layer }
     {
-        let nav = self.nav;
-        focus_calls::top_modal_layer(nav)
+        focus_calls::top_modal_layer(self.nav)
     }
 
+    #[tactic(auto, unfolding(crate::specs::Focus::modal_set))]
     pub fn set_modal_layer(self, layer: LayerId) -> Done
         ensures { result ≡ modal_set self layer }
     {
-        let nav = self.nav;
-        self.with(focus_calls::set_modal_layer(nav, layer))
+        self.with(focus_calls::set_modal_layer(self.nav, layer))
     }
 
+    #[tactic(auto, unfolding(crate::specs::Focus::requested))]
     pub fn request_focus(self, id: u64) -> Done
         ensures { result ≡ requested self id }
     {
-        let nav = self.nav;
-        self.with(focus_calls::request_focus(nav, id))
+        self.with(focus_calls::request_focus(self.nav, id))
     }
 
+    #[tactic(auto, unfolding(crate::specs::Focus::requested_next))]
     pub fn request_focus_next_frame(self, id: u64) -> Done
         ensures { result ≡ requested_next self id }
     {
-        let nav = self.nav;
-        self.with(focus_calls::request_focus_next_frame(nav, id))
+        self.with(focus_calls::request_focus_next_frame(self.nav, id))
     }
 
+    #[tactic(auto, unfolding(crate::specs::Focus::surrendered))]
     pub fn surrender_focus(self, id: u64) -> Done
         ensures { result ≡ surrendered self id }
     {
-        let nav = self.nav;
-        self.with(focus_calls::surrender_focus(nav, id))
+        self.with(focus_calls::surrender_focus(self.nav, id))
     }
 
+    #[tactic(auto, unfolding(crate::specs::Focus::filter_set))]
     pub fn set_focus_lock_filter(self, id: u64, filter: EventFilter) -> Done
         ensures { result ≡ filter_set self id filter }
     {
-        let nav = self.nav;
-        self.with(focus_calls::set_focus_lock_filter(nav, id, filter))
+        self.with(focus_calls::set_focus_lock_filter(self.nav, id, filter))
     }
 
+    #[tactic(auto, unfolding(crate::specs::Focus::moved))]
     pub fn move_focus(self, direction: u64) -> Done
         ensures { result ≡ moved self direction }
     {
-        let nav = self.nav;
-        self.with(focus_calls::move_focus(nav, direction))
+        self.with(focus_calls::move_focus(self.nav, direction))
     }
 
-    pub fn ignore_focus(self, id: u64) -> Done
+    pub fn ignore_focus(mut self, id: u64) -> Done
         ensures { result ≡ ignored_of self id }
     {
-        let nav = self.nav;
-        let mut ids = self.ids;
-        let mut rects = self.rects;
-        let r = focus_pass::ignore_focus(nav, &mut ids, &mut rects, self.count, id);
-        let next = r.nav;
+        let r = focus_pass::ignore_focus(self.nav, &mut self.ids, &mut self.rects, self.count, id);
         let focus = Focus {
-            nav: next,
-            ids: ids,
-            rects: rects,
+            nav: r.nav,
             count: r.count,
-            slot: self.slot,
+            ..self
         };
         Done {
-            focus: focus,
+            focus,
             refusal: r.refusal,
         }
     }

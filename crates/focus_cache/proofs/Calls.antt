@@ -1,23 +1,24 @@
 -- Each return of the calls, and each turn of `remove`. Assumes nothing.
 use mathlib.Core.Path.{◌≡◌, refl, sym, ap, ◌∙◌}
-use mathlib.Core.Bool.{true, false}
+use mathlib.Core.Bool.{false}
 use mathlib.Core.List.{List, [], ◌∷◌, ◌++◌}
-use Prim.Native.Nat.{ℕ, ◌+◌, ◌*◌, ◌/◌, min, ◌<◌, ◌≤◌}
+use Prim.Native.Nat.{ℕ, ◌+◌, min, ◌<◌, ◌≤◌}
 use native.Mathlib.Numerals.{add-one}
 use native.Mathlib.Omega.{arith}
-use lib.Ieee.{Float, nan}
-use lib.ListN.{length, get_or, take, drop, set, length-append, length-take}
+use lib.Ieee.{Float}
+use lib.ListN.{length, get_or, take, length-append, length-take}
+use Rattle.std.specs.Prelude.{Option, None, Some}
+use Rattle.std.specs.List.{list_any}
+use lib.Dec.{eqb}
 use lib.Seq.{take_all, length-take-le}
 use borrow.Author.Tests.{lt-ltb, le-ltb}
 use Rattle.emath.specs.declared.Rect.{Rect}
 use Rattle.emath.specs.Rect.{everything}
-use Rattle.tables.specs.declared.Found.{Found}
-use Rattle.tables.specs.declared.Found.TheVariants.{At, Nothing}
-use Rattle.tables.specs.Tables.{first_from, after, put_at}
+use Rattle.tables.specs.Tables.{after}
 use Rattle.search.specs.declared.Candidate.{Candidate}
 use Rattle.focus_cache.specs.declared.Enlisted.{Enlisted}
-use Rattle.focus_cache.specs.Cache.{Cache, cache_in, room_in, held_in, ids_of, has_id, enlisted, without, cache_on, put_in, rect_at, corners_of, full_refusal, slot_after, enlisted_of}
-use Rattle.focus_cache.proofs.Entries.{held_length, held_ids, held_at, on_held, on_none, on_lengths, put_more, rest_ids, rest_rects, after_has, after_not, first_has, first_not, without_length, without_same, without_other}
+use Rattle.focus_cache.specs.Cache.{Cache, cache_in, room_in, held_in, ids_of, has_id, enlisted, without, cache_on, put_in, rect_at, full_refusal, slot_after, enlisted_of}
+use Rattle.focus_cache.proofs.Entries.{held_length, held_ids, held_at, on_held, on_none, on_lengths, put_more, rest_ids, rest_rects, any_has, after_has, after_not, without_length, without_same, without_other}
 
 -- ---- how many are held, and where
 module _ (count : ℕ) (ids : List ℕ) (rects : List Float) where
@@ -37,31 +38,8 @@ module _ (count : ℕ) (ids : List ℕ) (rects : List Float) where
     pub part_ids : take n ids ≡ ids_of (held_in count ids rects)
     part_ids = rw (e, held_length count ids rects) (sym (held_ids count ids rects))
 
-    module _ (f : Found) (id : ℕ) where
-      pub contains_at : (k : ℕ) → f ≡ first_from 0 (drop 0 (take n ids)) id → f ≡ At k → true ≡ has_id (held_in count ids rects) id
-      contains_at k p q = sym (first_has held id k (rw part_ids at (sym p ∙ q))).1
-
-      pub contains_not : f ≡ first_from 0 (drop 0 (take n ids)) id → f ≡ Nothing → false ≡ has_id (held_in count ids rects) id
-      contains_not p q = sym (first_not held id (rw part_ids at (sym p ∙ q)))
-
--- ---- an entry read, and put
-module _ (rects : List Float) (k : ℕ) where
-  pub rect_there : k < length rects / 4 → record { min = record { x = get_or rects (4 * k) nan; y = get_or rects (4 * k + 1) nan }; max = record { x = get_or rects (4 * k + 2) nan; y = get_or rects (4 * k + 3) nan } } ≡ rect_at rects k
-  unfolding rect_at
-  rect_there h = rw (lt-ltb k (length rects / 4) h)
-
-  pub rect_past : (r : Rect) → length rects / 4 ≤ k → r ≡ everything → r ≡ rect_at rects k
-  unfolding rect_at
-  rect_past r h e = rw (le-ltb k (length rects / 4) h) e
-
-module _ (ids : List ℕ) (rects : List Float) (k id : ℕ) (rect : Rect) (room : ℕ) (e : room ≡ room_in ids rects) where
-  pub put_there : (now : List Float) → k < room → now ≡ put_at rects (4 * k) (rect.min.x ∷ rect.min.y ∷ rect.max.x ∷ rect.max.y ∷ []) → cache_in (set ids k id) now ≡ put_in (cache_in ids rects) k (record { id = id; rect = rect })
-  unfolding put_in corners_of
-  put_there now h p = rw (lt-ltb k (room_in ids rects) (omega arith), p)
-
-  pub put_past : room ≤ k → cache_in ids rects ≡ put_in (cache_in ids rects) k (record { id = id; rect = rect })
-  unfolding put_in
-  put_past h = rw (le-ltb k (room_in ids rects) (omega arith))
+    pub contains_part : (id : ℕ) → list_any (λ x. eqb x id) (take n ids) ≡ has_id (held_in count ids rects) id
+    contains_part id = rw part_ids (any_has held id)
 
 -- ---- the id has an entry, old or new, or is refused
 module _ (count : ℕ) (ids : List ℕ) (rects : List Float) (slot id : ℕ) where
@@ -74,24 +52,24 @@ module _ (count : ℕ) (ids : List ℕ) (rects : List Float) (slot id : ℕ) whe
   abbrev after_it : Cache
   after_it = cache_on (cache_in ids rects) (enlisted (held_in count ids rects) id)
 
-  module _ (n : ℕ) (e : n ≡ length (held_in count ids rects)) (f : Found) (p : f ≡ after (take n ids) slot id) where
+  module _ (n : ℕ) (e : n ≡ length (held_in count ids rects)) (f : Option ℕ) (p : f ≡ after (take n ids) slot id) where
     sought : after (ids_of entries) slot id ≡ f
     sought = rw (← part_ids count ids rects n e) (sym p)
 
-    pub slot_fits : (k : ℕ) → f ≡ At k → k < length ids
+    pub slot_fits : (k : ℕ) → f ≡ Some k → k < length ids
     slot_fits k q = omega (arith, held_fits count ids rects n e, (after_has entries id slot k (sought ∙ q)).0)
 
-    pub old_answer : (k : ℕ) → f ≡ At k → record { refusal = 0; count = n; slot = k + 1 } ≡ answer
+    pub old_answer : (k : ℕ) → f ≡ Some k → record { refusal = 0; count = n; slot = k + 1 } ≡ answer
     unfolding enlisted_of full_refusal enlisted slot_after
     old_answer k q =
         let b = held_length count ids rects in
         rw ((after_has entries id slot k (sought ∙ q)).1, le-ltb (room_in ids rects) (length entries) (omega arith), sought, q, ← e, add-one)
 
-    pub old_cache : (k : ℕ) → f ≡ At k → cache_in ids rects ≡ after_it
+    pub old_cache : (k : ℕ) → f ≡ Some k → cache_in ids rects ≡ after_it
     unfolding enlisted
     old_cache k q = rw (after_has entries id slot k (sought ∙ q)).1 (sym (on_held count ids rects))
 
-    module _ (q : f ≡ Nothing) (room : ℕ) (r : room ≡ room_in ids rects) where
+    module _ (q : f ≡ None) (room : ℕ) (r : room ≡ room_in ids rects) where
       abbrev new : Candidate
       new = record { id = id; rect = everything }
 

@@ -1,6 +1,6 @@
 -- Laws of the entries that tables hold, of a list of entries on the first places of tables, and of an id in a list. Assumes nothing.
 use mathlib.Core.Path.{◌≡◌, refl, sym, ap, ◌∙◌}
-use mathlib.Core.Bool.{Bool, true, false, cond, or-true}
+use mathlib.Core.Bool.{Bool, true, false, cond, or-true, ◌||◌}
 use mathlib.Core.List.{List, [], ◌∷◌, ◌++◌, append-nil}
 use Prim.Native.Nat.{ℕ, zero, suc, ◌+◌, ◌*◌, ◌/◌, min, ◌<◌, ◌≤◌}
 use native.Mathlib.Numerals.{add-one}
@@ -8,11 +8,12 @@ use native.Mathlib.Omega.{arith}
 use lib.Dec.{eqb}
 use lib.Ieee.{Float, nan}
 use lib.ListN.{length, get_or, take, drop, length-map}
+use Rattle.std.specs.Prelude.{None, Some}
+use Rattle.std.specs.List.{list_any}
 use lib.Seq.{take-nil, take-suc, take-append_seam, length-take-le, get_or-take}
 use borrow.Author.Tests.{eq-eqb, ne_eqb, lt-ltb}
-use Rattle.tables.specs.declared.Found.TheVariants.{At, Nothing}
-use Rattle.tables.specs.Tables.{first_from, after}
-use Rattle.tables.proofs.Finding.{after_at, after_none, after_from, after_below, below_none}
+use Rattle.tables.specs.Tables.{after}
+use Rattle.tables.proofs.Finding.{after_at, after_none}
 use Rattle.tables.proofs.Written.{one_more_lem, row_more, written_length, written_fits, written_same, written_get}
 use Rattle.search.specs.declared.Candidate.{Candidate}
 use Rattle.search.specs.Search.{place_of, table_of}
@@ -143,6 +144,11 @@ module _ (c : Cache) where
         rw (on_lengths.1, same (4 * i) (omega arith), same (4 * i + 1) (omega arith), same (4 * i + 2) (omega arith), same (4 * i + 3) (omega arith))
 
 -- ---- an id among the entries
+pub any_has : (l : List Candidate) (id : ℕ) → list_any (λ x. eqb x id) (ids_of l) ≡ has_id l id
+unfolding has_id
+any_has [] id = refl
+any_has (e ∷ l) id = ap (λ (t : Bool). eqb e.id id || t) (any_has l id)
+
 pub has_at : (l : List Candidate) (id i : ℕ) → i < length l → get_or (ids_of l) i 0 ≡ id → has_id l id ≡ true
 unfolding has_id
 has_at [] id i h q = absurd (omega arith)
@@ -155,20 +161,14 @@ has_nowhere [] id n = refl
 has_nowhere (e ∷ l) id n = rw (ne_eqb e.id id (n 0 (omega arith))) (has_nowhere l id (λ i h. n (suc i) (omega arith)))
 
 module _ (l : List Candidate) (id : ℕ) where
-  pub after_has : (from k : ℕ) → after (ids_of l) from id ≡ At k → (k < length l) × (has_id l id ≡ true)
+  pub after_has : (from k : ℕ) → after (ids_of l) from id ≡ Some k → (k < length l) × (has_id l id ≡ true)
   after_has from k e =
       let (h, q) = after_at (ids_of l) from id k e in
       let b : k < length l = omega (arith, ids_length l) in
       (b, has_at l id k b q)
 
-  pub after_not : (from : ℕ) → after (ids_of l) from id ≡ Nothing → has_id l id ≡ false
+  pub after_not : (from : ℕ) → after (ids_of l) from id ≡ None → has_id l id ≡ false
   after_not from e = has_nowhere l id (λ i h. after_none (ids_of l) from id i e (omega (arith, ids_length l)))
-
-  pub first_has : (k : ℕ) → first_from 0 (ids_of l) id ≡ At k → (k < length l) × (has_id l id ≡ true)
-  first_has k e = after_has 0 k (sym (after_from (ids_of l) 0 id (At k) (At k) k (sym e) refl))
-
-  pub first_not : first_from 0 (ids_of l) id ≡ Nothing → has_id l id ≡ false
-  first_not e = after_not 0 (sym (after_below (ids_of l) 0 id Nothing Nothing (sym e) refl (sym (below_none (ids_of l) id 0 (λ h. omega arith)))))
 
 -- ---- the entries without an id, one entry more at a time
 pub without_append : (l m : List Candidate) (id : ℕ) → without (l ++ m) id ≡ without l id ++ without m id

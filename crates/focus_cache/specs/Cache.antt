@@ -1,12 +1,10 @@
 -- `focus_widgets_cache` of Focus (memory/mod.rs, line 537), a map from ids to rectangles, as the list of its entries in the order in which they came: what the calls do to the list, and the
 -- exact value of each number of the tables that hold it. A reader needs only the list. Definitions only.
-use Rattle.std.specs.Prelude.{ℕ, suc, ◌+◌, ◌*◌, ◌/◌, min, Bool, false, cond, ◌||◌, List, [], ◌∷◌, ◌++◌, map, eqb, ltb, Float, length, get_or, take, set}
+use Rattle.std.specs.Prelude.{ℕ, suc, ◌+◌, ◌*◌, ◌/◌, min, Bool, false, cond, ◌||◌, Option, None, Some, List, [], ◌∷◌, ◌++◌, map, eqb, ltb, Float, length, get_or, take, set}
 use Rattle.std.specs.Float.{nan}
 use Rattle.refusal.specs.Refusal.{none, full, kept}
 use Rattle.emath.specs.declared.Rect.{Rect}
 use Rattle.emath.specs.Rect.{everything}
-use Rattle.tables.specs.declared.Found.{Found}
-use Rattle.tables.specs.declared.Found.TheVariants.{At, Nothing}
 use Rattle.tables.specs.Tables.{after, put_at, written_on}
 use Rattle.search.specs.declared.Candidate.{Candidate}
 use Rattle.search.specs.Search.{table_of}
@@ -62,9 +60,9 @@ unfoldable pub rect_at : List Float → ℕ → Rect
 rect_at rects k = cond (ltb k (length rects / 4)) (record { min = record { x = get_or rects (4 * k) nan; y = get_or rects (4 * k + 1) nan }; max = record { x = get_or rects (4 * k + 2) nan; y = get_or rects (4 * k + 3) nan } }) everything
 
 -- ---- where the next interest call looks first: after the entry of this one
-abbrev pub place_after : Found → ℕ → ℕ
-place_after (At k) n = suc k
-place_after Nothing n = suc n
+abbrev pub place_after : Option ℕ → ℕ → ℕ
+place_after (Some k) n = suc k
+place_after None n = suc n
 
 unfoldable pub slot_after : List Candidate → ℕ → ℕ → ℕ
 slot_after held slot id = place_after (after (ids_of held) slot id) (length held)

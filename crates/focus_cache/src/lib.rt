@@ -10,7 +10,6 @@ ghost use Rattle.focus_cache.specs.Cache.{room_in, held_in, has_id, without, enl
 
 use emath::{Pos2, Rect};
 use refusal::{FULL, NONE};
-use tables::Found;
 
 // A refusal, how many entries are held, and the place where the next call looks first.
 #[derive(Clone, Copy)]
@@ -24,35 +23,34 @@ pub struct Enlisted {
 pub fn room(ids: &[u64], rects: &[f32]) -> usize
     ensures { result ≡ room_in ids.now rects.now }
 {
-    tables::fewer(ids.len(), rects.len() / 4)
+    ids.len().min(rects.len() / 4)
 }
 
 // How many are held: never more than there is room for.
 pub fn held(ids: &[u64], rects: &[f32], count: usize) -> usize
     ensures { result ≡ length (held_in count ids.now rects.now) }
 {
-    tables::fewer(count, room(ids, rects))
+    count.min(room(ids, rects))
 }
 
 // Whether the cache holds an id.
+#[tactic(auto, using(crate::proofs::Calls::held_fits, crate::proofs::Calls::held_part))]
 pub fn contains(ids: &[u64], rects: &[f32], count: usize, id: u64) -> bool
     ensures { result ≡ has_id (held_in count ids.now rects.now) id }
 {
     let n = held(ids, rects, count);
-    match tables::find_from(&ids[..n], 0, id) {
-        Found::At(_) => true,
-        Found::Nothing => false,
-    }
+    ids[..n].contains(&id)
 }
 
 // Puts an id with a rectangle in entry k, where there is room.
+#[tactic(auto, unfolding(crate::specs::Cache::put_in, crate::specs::Cache::corners_of))]
 pub fn put(ids: &mut [u64], rects: &mut [f32], k: usize, id: u64, rect: Rect)
     ensures { cache_in ids.new rects.new ≡ put_in (cache_in ids.old rects.old) k (record { id = id; rect = rect }) }
 {
     if k < room(ids, rects) {
         ids[k] = id;
         let row = [rect.min.x, rect.min.y, rect.max.x, rect.max.y];
-        tables::put_floats(rects, 4 * k, &row);
+        tables::put(rects, 4 * k, &row);
     }
 }
 
@@ -62,36 +60,35 @@ pub fn enlist(ids: &mut [u64], rects: &mut [f32], count: usize, slot: usize, id:
 {
     let n = held(ids, rects, count);
     match tables::find_after(&ids[..n], slot, id) {
-        Found::At(k) => Enlisted {
+        Some(k) => Enlisted {
             refusal: NONE,
             count: n,
             slot: k + 1,
         },
-        Found::Nothing => {
-            if n < room(ids, rects) {
-                put(ids, rects, n, id, Rect::everything());
-                return Enlisted {
-                    refusal: NONE,
-                    count: n + 1,
-                    slot: n + 1,
-                };
-            }
+        None if n < room(ids, rects) => {
+            put(ids, rects, n, id, Rect::everything());
             Enlisted {
-                refusal: FULL,
-                count: count,
-                slot: slot,
+                refusal: NONE,
+                count: n + 1,
+                slot: n + 1,
             }
         }
+        None => Enlisted {
+            refusal: FULL,
+            count,
+            slot,
+        },
     }
 }
 
 // The rectangle of entry k.
+#[tactic(auto, unfolding(crate::specs::Cache::rect_at))]
 pub fn rect_at(rects: &[f32], k: usize) -> Rect
     ensures { result ≡ rect_at rects.now k }
 {
     if k < rects.len() / 4 {
         let at = 4 * k;
-        return Rect {
+        Rect {
             min: Pos2 {
                 x: rects[at],
                 y: rects[at + 1],
@@ -100,9 +97,10 @@ pub fn rect_at(rects: &[f32], k: usize) -> Rect
                 x: rects[at + 2],
                 y: rects[at + 3],
             },
-        };
+        }
+    } else {
+        Rect::everything()
     }
-    Rect::everything()
 }
 
 // Takes the entries of an id out; the others close up.
@@ -110,15 +108,13 @@ pub fn remove(ids: &mut [u64], rects: &mut [f32], count: usize, id: u64) -> usiz
     ensures { (result ≡ length (without (held_in count ids.old rects.old) id)) × (cache_in ids.new rects.new ≡ cache_on (cache_in ids.old rects.old) (without (held_in count ids.old rects.old) id)) }
 {
     let n = held(ids, rects, count);
-    let mut kept: usize = 0;
-    let mut i: usize = 0;
-    while i < n {
+    let mut kept = 0;
+    for i in 0..n {
         let here = ids[i];
         if here != id {
             put(ids, rects, kept, here, rect_at(rects, i));
             kept += 1;
         }
-        i += 1;
     }
     kept
 }

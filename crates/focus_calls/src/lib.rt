@@ -8,7 +8,7 @@ ghost use Rattle.layers.specs.Layers.{layer_refusal};
 ghost use Rattle.layer_queries.specs.Queries.{flag_answer};
 ghost use Rattle.focus_rules.specs.Rules.{new_nav, focus_on, id_or_nothing, layer_or_nothing, changed_to, with_modals, with_next, let_go, filtered_of, with_direction};
 
-use focus_rules::{Changed, IdAnswer, NO_DIRECTION, Nav};
+use focus_rules::{Changed, NO_DIRECTION, Nav};
 use input::EventFilter;
 use layer_queries::{FlagAnswer, LayerAnswer};
 use layers::LayerId;
@@ -31,22 +31,20 @@ pub fn new() -> Nav
     }
 }
 
-pub fn focused(nav: Nav) -> IdAnswer
+pub fn focused(nav: Nav) -> Option<u64>
     ensures { result ≡ id_or_nothing nav.focused }
 {
-    if nav.focused == 0 {
-        return IdAnswer::Nothing;
-    }
-    IdAnswer::Is(nav.focused)
+    navigation::focused_widget(nav).map(|w| w.id)
 }
 
 pub fn had_focus_last_frame(nav: Nav, id: u64) -> FlagAnswer
     ensures { result ≡ flag_answer (id_refusal id) (eqb nav.id_previous_frame id) }
 {
     if id == 0 {
-        return FlagAnswer::Refused(ZERO_ID);
+        FlagAnswer::Refused(ZERO_ID)
+    } else {
+        FlagAnswer::Is(nav.id_previous_frame == id)
     }
-    FlagAnswer::Is(nav.id_previous_frame == id)
 }
 
 pub fn top_modal_layer(nav: Nav) -> LayerAnswer
@@ -54,24 +52,19 @@ pub fn top_modal_layer(nav: Nav) -> LayerAnswer
 {
     let layer = nav.top_modal_layer;
     if layer.id == 0 {
-        return LayerAnswer::Nothing;
+        LayerAnswer::Nothing
+    } else {
+        LayerAnswer::Is(layer)
     }
-    LayerAnswer::Is(layer)
 }
 
 // The next fields, unless the call is refused.
 fn changed(nav: Nav, refusal: u64, next: Nav) -> Changed
     ensures { result ≡ changed_to refusal nav next }
 {
-    if refusal == NONE {
-        return Changed {
-            refusal: refusal,
-            nav: next,
-        };
-    }
     Changed {
-        refusal: refusal,
-        nav: nav,
+        refusal,
+        nav: if refusal == NONE { next } else { nav },
     }
 }
 
@@ -79,9 +72,11 @@ fn changed(nav: Nav, refusal: u64, next: Nav) -> Changed
 pub fn set_modal_layer(nav: Nav, layer: LayerId) -> Changed
     ensures { result ≡ changed_to (layer_refusal layer) nav (with_modals nav nav.top_modal_layer layer) }
 {
-    let mut out = nav;
-    out.top_modal_layer_current_frame = layer;
-    changed(nav, layer.refusal(), out)
+    let next = Nav {
+        top_modal_layer_current_frame: layer,
+        ..nav
+    };
+    changed(nav, layer.refusal(), next)
 }
 
 pub fn request_focus(nav: Nav, id: u64) -> Changed
@@ -93,19 +88,23 @@ pub fn request_focus(nav: Nav, id: u64) -> Changed
 pub fn request_focus_next_frame(nav: Nav, id: u64) -> Changed
     ensures { result ≡ changed_to (id_refusal id) nav (with_next nav id) }
 {
-    let mut out = nav;
-    out.id_next_frame = id;
-    changed(nav, refusal::id_refusal(id), out)
+    let next = Nav {
+        id_next_frame: id,
+        ..nav
+    };
+    changed(nav, refusal::id_refusal(id), next)
 }
 
 // Lets the focus go, if it is on this id.
+#[tactic(auto, unfolding(focus_rules::specs::Rules::let_go))]
 pub fn let_go(nav: Nav, id: u64) -> Nav
     ensures { result ≡ let_go nav id }
 {
     if nav.focused == id {
-        return navigation::focus_on(nav, 0);
+        navigation::focus_on(nav, 0)
+    } else {
+        nav
     }
-    nav
 }
 
 pub fn surrender_focus(nav: Nav, id: u64) -> Changed
@@ -114,17 +113,15 @@ pub fn surrender_focus(nav: Nav, id: u64) -> Changed
     changed(nav, refusal::id_refusal(id), let_go(nav, id))
 }
 
+#[tactic(auto, unfolding(focus_rules::specs::Rules::filtered_of))]
 fn with_filter(nav: Nav, id: u64, filter: EventFilter) -> Nav
     ensures { result ≡ filtered_of nav id filter }
 {
-    if nav.id_previous_frame == id {
-        if nav.focused == id {
-            let mut out = nav;
-            out.filter = filter;
-            return out;
-        }
+    if nav.id_previous_frame == id && nav.focused == id {
+        Nav { filter, ..nav }
+    } else {
+        nav
     }
-    nav
 }
 
 pub fn set_focus_lock_filter(nav: Nav, id: u64, filter: EventFilter) -> Changed
@@ -136,7 +133,9 @@ pub fn set_focus_lock_filter(nav: Nav, id: u64, filter: EventFilter) -> Changed
 pub fn move_focus(nav: Nav, direction: u64) -> Changed
     ensures { result ≡ changed_to (code_refusal direction last_direction) nav (with_direction nav direction) }
 {
-    let mut out = nav;
-    out.focus_direction = direction;
-    changed(nav, refusal::code_refusal(direction, LAST_DIRECTION), out)
+    let next = Nav {
+        focus_direction: direction,
+        ..nav
+    };
+    changed(nav, refusal::code_refusal(direction, LAST_DIRECTION), next)
 }

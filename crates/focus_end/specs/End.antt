@@ -1,36 +1,35 @@
 -- Focus::end_pass and find_widget_in_direction of memory/mod.rs (lines 635 to 653 and 708 to 783) over the fields of crate focus_rules, the entries of the cache and those that were used, with
 -- document 01's refusals. Definitions only.
-use Rattle.std.specs.Prelude.{ℕ, cond, List, [], ◌∷◌, eqb, length}
+use Rattle.std.specs.Prelude.{ℕ, cond, Option, None, Some, List, [], ◌∷◌, eqb, length}
 use Rattle.refusal.specs.Refusal.{kept}
 use Rattle.input.specs.FocusDirection.{is_cardinal}
+use Rattle.emath.specs.declared.Rect.{Rect}
 use Rattle.search.specs.declared.Candidate.{Candidate}
 use Rattle.search.specs.Search.{find_of}
 use Rattle.focus_rules.specs.declared.Nav.{Nav}
 use Rattle.focus_rules.specs.Rules.{found_of, ended_of}
 use Rattle.focus_cache.specs.Cache.{has_id}
 use Rattle.used.specs.Used.{used_refusal}
-use Rattle.focus_end.specs.declared.CachedRect.{CachedRect}
-use Rattle.focus_end.specs.declared.CachedRect.TheVariants.{Absent, At}
 use Rattle.focus_end.specs.declared.Ended.{Ended}
 
 -- ---- the map's `get`
-unfoldable pub rect_in : List Candidate → ℕ → CachedRect
-rect_in [] id = Absent
-rect_in (e ∷ entries) id = cond (eqb e.id id) (At e.rect) (rect_in entries id)
+unfoldable pub rect_in : List Candidate → ℕ → Option Rect
+rect_in [] id = None
+rect_in (e ∷ entries) id = cond (eqb e.id id) (Some e.rect) (rect_in entries id)
 
 -- ---- `retain`: an entry that is used takes its new rectangle, the others are left out
-abbrev pub kept_with : CachedRect → ℕ → List Candidate → List Candidate
-kept_with Absent id rest = rest
-kept_with (At rect) id rest = record { id = id; rect = rect } ∷ rest
+abbrev pub kept_with : Option Rect → ℕ → List Candidate → List Candidate
+kept_with None id rest = rest
+kept_with (Some rect) id rest = record { id = id; rect = rect } ∷ rest
 
 unfoldable pub updated : List Candidate → List Candidate → List Candidate
 updated used [] = []
 updated used (e ∷ held) = kept_with (rect_in used e.id) e.id (updated used held)
 
 -- ---- find_widget_in_direction, from the focused id's rectangle on: the id found, or 0
-abbrev pub search_from : CachedRect → Nav → List Candidate → ℕ
-search_from Absent nav cache = 0
-search_from (At current) nav cache = find_of cache nav.focused current nav.focus_direction
+abbrev pub search_from : Option Rect → Nav → List Candidate → ℕ
+search_from None nav cache = 0
+search_from (Some current) nav cache = find_of cache nav.focused current nav.focus_direction
 
 -- the cache, and what is found, where a widget is focused; where none is, the search leaves at once
 unfoldable pub refreshed : Nav → List Candidate → List Candidate → List Candidate

@@ -11,9 +11,8 @@ ghost use Rattle.focus_end.specs.End.{rect_in, updated, refreshed, cache_ended, 
 ghost use Rattle.focus_end.specs.Steps.{count_after, kept_in, searched_of};
 
 use emath::Rect;
-use focus_rules::{FocusWidget, Nav};
+use focus_rules::Nav;
 use refusal::NONE;
-use tables::Found;
 
 // A call's refusal, the fields after it, and how many entries the cache holds.
 #[derive(Clone, Copy)]
@@ -29,13 +28,6 @@ pub struct Ended {
 struct Kept {
     count: usize,
     next: usize,
-}
-
-// The rectangle of an id that the cache holds.
-#[derive(Clone, Copy)]
-pub enum CachedRect {
-    Absent,
-    At(Rect),
 }
 
 // What the search found, 0 for nothing, and how many entries the cache holds.
@@ -59,15 +51,15 @@ fn keep(
 {
     let id = ids[i];
     match tables::find_after(used, so_far.next, id) {
-        Found::At(k) => {
-            let count = so_far.count;
-            focus_cache::put(ids, rects, count, id, focus_cache::rect_at(corners, k));
+        Some(k) => {
+            let rect = focus_cache::rect_at(corners, k);
+            focus_cache::put(ids, rects, so_far.count, id, rect);
             Kept {
-                count: count + 1,
+                count: so_far.count + 1,
                 next: k + 1,
             }
         }
-        Found::Nothing => so_far,
+        None => so_far,
     }
 }
 
@@ -78,23 +70,19 @@ fn retain(ids: &mut [u64], rects: &mut [f32], count: usize, used: &[u64], corner
 {
     let n = focus_cache::held(ids, rects, count);
     let mut so_far = Kept { count: 0, next: 0 };
-    let mut i: usize = 0;
-    while i < n {
+    for i in 0..n {
         so_far = keep(ids, rects, so_far, i, used, corners);
-        i += 1;
     }
     so_far.count
 }
 
 // The rectangle of an id.
-fn rect_of(ids: &[u64], rects: &[f32], id: u64) -> CachedRect
+fn rect_of(ids: &[u64], rects: &[f32], id: u64) -> Option<Rect>
     requires { 4 * length ids.now ≤ length rects.now }
     ensures { result ≡ rect_in (table_of ids.now rects.now) id }
 {
-    match tables::find_from(ids, 0, id) {
-        Found::At(k) => CachedRect::At(focus_cache::rect_at(rects, k)),
-        Found::Nothing => CachedRect::Absent,
-    }
+    let k = tables::find_from(ids, 0, id)?;
+    Some(focus_cache::rect_at(rects, k))
 }
 
 fn find_widget_in_direction(
@@ -108,21 +96,21 @@ fn find_widget_in_direction(
     requires { (repeated used.now ≡ false) × (4 * length used.now ≤ length corners.now) }
     ensures { (result ≡ searched_of nav (held_in count ids.old rects.old) (entries_in used.now corners.now)) × (cache_in ids.new rects.new ≡ cache_on (cache_in ids.old rects.old) (refreshed nav (held_in count ids.old rects.old) (entries_in used.now corners.now))) }
 {
-    let FocusWidget::Held(focused, _) = navigation::focused_widget(nav) else {
+    let Some(widget) = navigation::focused_widget(nav) else {
         return Searched {
             found: 0,
             count: focus_cache::held(ids, rects, count),
         };
     };
     let n = retain(ids, rects, count, used, corners);
-    let CachedRect::At(current) = rect_of(&ids[..n], &rects[..4 * n], focused) else {
+    let Some(current) = rect_of(&ids[..n], &rects[..4 * n], widget.id) else {
         return Searched { found: 0, count: n };
     };
     Searched {
         found: search::find(
             &ids[..n],
             &rects[..4 * n],
-            focused,
+            widget.id,
             current,
             nav.focus_direction,
         ),
@@ -130,13 +118,11 @@ fn find_widget_in_direction(
     }
 }
 
+#[tactic(auto, using(crate::proofs::Calls::among))]
 fn is_used(used: &[u64], corners: &[f32], id: u64) -> bool
     ensures { result ≡ has_id (entries_in used.now corners.now) id }
 {
-    match tables::find_from(used, 0, id) {
-        Found::At(_) => true,
-        Found::Nothing => false,
-    }
+    used.contains(&id)
 }
 
 pub fn end_pass(
@@ -151,25 +137,25 @@ pub fn end_pass(
     ensures { (result ≡ end_of limit nav (held_in count ids.old rects.old) count (entries_in used.now corners.now)) × (cache_in ids.new rects.new ≡ kept result.refusal (cache_in ids.old rects.old) (cache_on (cache_in ids.old rects.old) (cache_ended nav (held_in count ids.old rects.old) (entries_in used.now corners.now)))) }
 {
     let refusal = used::refusal(used, corners, limit);
-    if refusal == NONE {
-        if input::is_cardinal(nav.focus_direction) {
-            let s = find_widget_in_direction(nav, ids, rects, count, used, corners);
-            let next = navigation::found(nav, s.found);
-            return Ended {
-                refusal: NONE,
-                nav: navigation::ended(next, is_used(used, corners, next.focused)),
-                count: s.count,
-            };
-        }
+    if refusal != NONE {
         return Ended {
-            refusal: NONE,
-            nav: navigation::ended(nav, is_used(used, corners, nav.focused)),
-            count: focus_cache::held(ids, rects, count),
+            refusal,
+            nav,
+            count,
+        };
+    }
+    if input::is_cardinal(nav.focus_direction) {
+        let s = find_widget_in_direction(nav, ids, rects, count, used, corners);
+        let next = navigation::found(nav, s.found);
+        return Ended {
+            refusal,
+            nav: navigation::ended(next, is_used(used, corners, next.focused)),
+            count: s.count,
         };
     }
     Ended {
-        refusal: refusal,
-        nav: nav,
-        count: count,
+        refusal,
+        nav: navigation::ended(nav, is_used(used, corners, nav.focused)),
+        count: focus_cache::held(ids, rects, count),
     }
 }

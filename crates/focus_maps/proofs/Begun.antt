@@ -2,7 +2,7 @@
 use mathlib.Core.Path.{◌≡◌, refl, sym, ap, ◌∙◌}
 use mathlib.Core.Bool.{Bool, true, false, cond, not, ◌&&◌}
 use mathlib.Core.List.{List, [], ◌∷◌}
-use mathlib.Core.Option.{Option, none, some}
+use Rattle.std.specs.Prelude.{Option, None, Some}
 use Prim.Native.Nat.{ℕ}
 use native.Mathlib.Omega.{arith}
 use lib.Dec.{eqb, ltb}
@@ -14,14 +14,12 @@ use Rattle.input.specs.declared.Event.{Event}
 use Rattle.input.specs.declared.Event.TheVariants.{Key, AccessKitFocus, Pointer, Zoom, Other}
 use Rattle.input.specs.declared.EventFilter.{EventFilter}
 use Rattle.input.specs.declared.Navigation.{Navigation}
-use Rattle.input.specs.declared.Navigation.TheVariants as Navigation
 use Rattle.input.specs.EventFilter.{matches_key}
 use Rattle.input.specs.Event.{event_refusal}
 use Rattle.input.specs.FocusDirection.{navigation_of, no_direction}
 use Rattle.search.specs.declared.Candidate.{Candidate}
 use Rattle.focus_rules.specs.declared.Nav.{Nav}
 use Rattle.focus_rules.specs.declared.Heard.{Heard}
-use Rattle.focus_rules.specs.declared.FocusWidget.TheVariants.{Absent}
 use Rattle.focus_rules.specs.Rules.{focus_on, with_direction, with_frames, with_give, with_next, reset_focus, started_of, filter_in, filter_of, nothing_heard, turned_by, heard_of, begun_of}
 use Rattle.focus_cache.specs.Cache.{has_id}
 use Rattle.focus_pass.specs.Pass.{begin_refusal, worst_of, heard_all, is_granted, nav_begun}
@@ -51,7 +49,7 @@ started_means n c = rw (focused_means n) (go (eqb n.id_next_frame 0) refl)
     aged : Nav
     aged = with_frames n n.focused n.id_previous_frame
 
-    go : (b : Bool) → eqb n.id_next_frame 0 ≡ b → meaning (reset_focus (cond b aged (focus_on (with_next aged 0) n.id_next_frame))) c ≡ Egui.with_direction (Egui.handed_over (meaning aged c) (cond b none (some n.id_next_frame))) no_direction
+    go : (b : Bool) → eqb n.id_next_frame 0 ≡ b → meaning (reset_focus (cond b aged (focus_on (with_next aged 0) n.id_next_frame))) c ≡ Egui.with_direction (Egui.handed_over (meaning aged c) (cond b None (Some n.id_next_frame))) no_direction
     go true e = refl
     go false e = rw e
 
@@ -67,7 +65,7 @@ module _ (start : Nav) (c : List Candidate) (filter : EventFilter) where
     turned h (Navigation.Direction d) = refl
     turned h Navigation.Escape = go (eqb h.escaped 0)
       where
-        go : (b : Bool) → k (Egui.reset_focus (Egui.with_widget (meaning (with_direction (cond b start (focus_on start 0)) h.direction) c) Absent)) (option_of h.asked) ≡ k (meaning (reset_focus (focus_on start 0)) c) (option_of h.asked)
+        go : (b : Bool) → k (Egui.reset_focus (Egui.with_widget (meaning (with_direction (cond b start (focus_on start 0)) h.direction) c) None)) (option_of h.asked) ≡ k (meaning (reset_focus (focus_on start 0)) c) (option_of h.asked)
         go true = refl
         go false = refl
 
@@ -90,7 +88,7 @@ module _ (start : Nav) (c : List Candidate) (filter : EventFilter) where
   unfolding worst_of Egui.events_heard heard_all begun_of is_granted
   heard_all_lem h n [] r = go (eqb h.asked 0) refl
     where
-      go : (b : Bool) → eqb h.asked 0 ≡ b → Egui.newly_focused (meaning (moved h) c) (cond b none (some h.asked)) ≡ meaning (cond (not b && has_id c h.asked) (reset_focus (with_give (focus_on (moved h) h.asked) false)) (moved h)) c
+      go : (b : Bool) → eqb h.asked 0 ≡ b → Egui.newly_focused (meaning (moved h) c) (cond b None (Some h.asked)) ≡ meaning (cond (not b && has_id c h.asked) (reset_focus (with_give (focus_on (moved h) h.asked) false)) (moved h)) c
       go true e = refl
       go false e = sym (choose {b = has_id c h.asked} refl c _ _ _ _ (ap (λ (m : Egui.Focus). Egui.reset_focus (Egui.with_give m false)) (on_means (moved h) c h.asked e)) refl)
   heard_all_lem h n (e ∷ events) r =
@@ -101,4 +99,4 @@ pub begin_means : (n : Nav) (c : List Candidate) (events : List Event) → begin
 unfolding nav_begun Egui.begin_pass filter_of started_of
 begin_means n c events r =
     sym (heard_all_lem (started_of n) c (filter_of (started_of n)) nothing_heard 0 events (accepted_worst events r))
-    ∙ ap (λ (m : Egui.Focus). Egui.events_heard (filter_in m.focused_widget) m none events) (started_means n c)
+    ∙ ap (λ (m : Egui.Focus). Egui.events_heard (filter_in m.focused_widget) m None events) (started_means n c)

@@ -1,4 +1,5 @@
 -- After every list of calls no id stands twice in egui's cache. Assumes nothing.
+use Rattle.std.specs.Prelude.{Option, None, Some}
 use mathlib.Core.Path.{◌≡◌, refl, sym}
 use mathlib.Core.Bool.{Bool, true, false, cond, ◌||◌, true≢false}
 use mathlib.Core.List.{List, [], ◌∷◌, ◌++◌}
@@ -14,8 +15,6 @@ use Rattle.search.specs.declared.Candidate.{Candidate}
 use Rattle.focus_rules.specs.declared.Nav.{Nav}
 use Rattle.focus_cache.specs.Cache.{held_in, has_id, enlisted, without}
 use Rattle.used.specs.Used.{ids_of, elem, repeated}
-use Rattle.focus_end.specs.declared.CachedRect.{CachedRect}
-use Rattle.focus_end.specs.declared.CachedRect.TheVariants.{Absent, At}
 use Rattle.focus_end.specs.End.{rect_in, kept_with, updated, refreshed, cache_ended}
 use Rattle.focus.specs.declared.Focus.{Focus}
 use Rattle.focus.specs.Focus.{new_focus, held_of, used_of}
@@ -57,9 +56,9 @@ unfolding updated
 updated_part used [] = (λ x h. h, λ h. h)
 updated_part used (e ∷ l) = go (rect_in used e.id) (updated_part used l)
   where
-    go : (r : CachedRect) → Part (updated used l) l → Part (kept_with r e.id (updated used l)) (e ∷ l)
-    go Absent p = part_less e (updated used l) l p
-    go (At rect) p = part_more e rect (updated used l) l p
+    go : (r : Option Rect) → Part (updated used l) l → Part (kept_with r e.id (updated used l)) (e ∷ l)
+    go None p = part_less e (updated used l) l p
+    go (Some rect) p = part_more e rect (updated used l) l p
 
 ended_distinct : (nav : Nav) (held used : List Candidate) → Distinct held → Distinct (cache_ended nav held used)
 unfolding cache_ended refreshed

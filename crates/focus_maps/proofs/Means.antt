@@ -2,7 +2,7 @@
 use mathlib.Core.Path.{◌≡◌, refl, sym, ap, ◌∙◌}
 use mathlib.Core.Bool.{Bool, true, false, cond, not, ◌&&◌}
 use mathlib.Core.List.{List}
-use mathlib.Core.Option.{none, some}
+use Rattle.std.specs.Prelude.{Option, None, Some}
 use Prim.Native.Nat.{ℕ}
 use native.Mathlib.Omega.{arith}
 use lib.Dec.{eqb}
@@ -12,21 +12,18 @@ use Rattle.refusal.specs.Refusal.{none as notRefused}
 use Rattle.refusal.specs.Limits.{last_order}
 use Rattle.refusal.proofs.Laws.{both_none}
 use Rattle.input.specs.declared.EventFilter.{EventFilter}
-use Rattle.input.specs.EventFilter.{default_filter}
 use Rattle.input.specs.FocusDirection.{previous, next}
 use Rattle.layers.specs.declared.LayerId.{LayerId}
 use Rattle.layers.specs.Layers.{layer_refusal}
 use Rattle.search.specs.declared.Candidate.{Candidate}
 use Rattle.layer_queries.specs.declared.LayerAnswer.TheVariants as LayerAnswer
 use Rattle.layer_queries.specs.Queries.{flag_answer}
-use Rattle.focus_rules.specs.declared.IdAnswer.TheVariants as IdAnswer
 use Rattle.focus_rules.specs.declared.Nav.{Nav}
 use Rattle.focus_rules.specs.declared.FocusWidget.{FocusWidget}
-use Rattle.focus_rules.specs.declared.FocusWidget.TheVariants.{Absent, Held}
 use Rattle.focus_rules.specs.Rules.{id_or_nothing, layer_or_nothing, focused_widget, focus_on, with_focus, with_next, with_modals, is_idle, ruled, interested_of, let_go, filtered_of}
 use Rattle.focus_cache.specs.Cache.{enlisted, without}
 use Rattle.focus_maps.specs.Egui as Egui
-use Rattle.focus_maps.specs.Calls.{option_of, layer_option, meaning, id_answer, layer_answer_of}
+use Rattle.focus_maps.specs.Calls.{option_of, layer_option, meaning, layer_answer_of}
 
 -- ---- what a refusal that is none says
 pub id_taken : (id : ℕ) → id_refusal id ≡ 0 → eqb id 0 ≡ false
@@ -45,28 +42,28 @@ module _ (n : Nav) where
   pub focused_means : Egui.id_of (focused_widget n) ≡ option_of n.focused
   focused_means = go (eqb n.focused 0)
     where
-      go : (b : Bool) → Egui.id_of (cond b Absent (Held n.focused n.filter)) ≡ cond b none (some n.focused)
+      go : (b : Bool) → Egui.id_of (cond {A = Option FocusWidget} b None (Some (record { id = n.focused; filter = n.filter }))) ≡ cond b None (Some n.focused)
       go true = refl
       go false = refl
 
   none_means : Egui.is_none (focused_widget n) ≡ eqb n.focused 0
   none_means = go (eqb n.focused 0)
     where
-      go : (b : Bool) → Egui.is_none (cond b Absent (Held n.focused n.filter)) ≡ b
+      go : (b : Bool) → Egui.is_none (cond {A = Option FocusWidget} b None (Some (record { id = n.focused; filter = n.filter }))) ≡ b
       go true = refl
       go false = refl
 
-widget_means : (id : ℕ) → Egui.widget_of (option_of id) ≡ cond (eqb id 0) Absent (Held id default_filter)
+widget_means : (id : ℕ) → Egui.widget_of (option_of id) ≡ cond {A = Option FocusWidget} (eqb id 0) None (Some (Egui.new_widget id))
 widget_means id = go (eqb id 0)
   where
-    go : (b : Bool) → Egui.widget_of (cond b none (some id)) ≡ cond b Absent (Held id default_filter)
+    go : (b : Bool) → Egui.widget_of (cond b None (Some id)) ≡ cond {A = Option FocusWidget} b None (Some (Egui.new_widget id))
     go true = refl
     go false = refl
 
 pub is_means : (x id : ℕ) → eqb id 0 ≡ false → Egui.is (option_of x) id ≡ eqb x id
 is_means x id h = go (eqb x 0) refl
   where
-    go : (b : Bool) → eqb x 0 ≡ b → Egui.is (cond b none (some x)) id ≡ eqb x id
+    go : (b : Bool) → eqb x 0 ≡ b → Egui.is (cond b None (Some x)) id ≡ eqb x id
     go true e = sym (ne_eqb x id (λ p. eqb-false id 0 h (sym p ∙ eqb-true x 0 e)))
     go false e = refl
 
@@ -96,7 +93,7 @@ module _ (n : Nav) (c : List Candidate) (id : ℕ) (h : eqb id 0 ≡ false) wher
       (choose held_means c _ _ _ _
       (choose {b = eqb n.focus_direction next} refl c _ _ _ _ refl (choose {b = eqb n.focus_direction previous} refl c _ _ _ _ refl refl))
       (choose (idle_means next) c _ _ _ _ (ap Egui.reset_focus on_means)
-      (choose (idle_means previous) c _ _ _ _ (ap (λ (w : FocusWidget). Egui.reset_focus (Egui.with_widget (meaning n c) w)) (sym (widget_means n.last_interested))) refl)))
+      (choose (idle_means previous) c _ _ _ _ (ap (λ (w : Option FocusWidget). Egui.reset_focus (Egui.with_widget (meaning n c) w)) (sym (widget_means n.last_interested))) refl)))
 
   pub next_means : meaning (with_next n id) c ≡ Egui.request_focus_next_frame (meaning n c) id
   next_means = rw h
@@ -106,7 +103,7 @@ module _ (n : Nav) (c : List Candidate) (id : ℕ) (h : eqb id 0 ≡ false) wher
   unfolding filtered_of Egui.set_focus_lock_filter
   filter_means filter = rw (is_means n.id_previous_frame id h, held_means) (go (eqb n.id_previous_frame id) (eqb n.focused id) refl)
     where
-      go : (p b : Bool) → eqb n.focused id ≡ b → meaning (cond (p && b) (with_focus n n.focused filter) n) c ≡ cond (p && b) (Egui.with_widget (meaning n c) (Held id filter)) (meaning n c)
+      go : (p b : Bool) → eqb n.focused id ≡ b → meaning (cond (p && b) (with_focus n n.focused filter) n) c ≡ cond (p && b) (Egui.with_widget (meaning n c) (Some (record { id = id; filter = filter }))) (meaning n c)
       go false b e = refl
       go true false e = refl
       go true true e = rw (eqb-true n.focused id e, h)
@@ -126,12 +123,8 @@ modal_means n c layer h = rw h
 
 -- ---- the queries
 module _ (n : Nav) where
-  pub focused_answer : id_or_nothing n.focused ≡ id_answer (Egui.id_of (focused_widget n))
-  focused_answer = rw (focused_means n) (go (eqb n.focused 0))
-    where
-      go : (b : Bool) → cond b IdAnswer.Nothing (IdAnswer.Is n.focused) ≡ id_answer (cond b none (some n.focused))
-      go true = refl
-      go false = refl
+  pub focused_answer : id_or_nothing n.focused ≡ Egui.id_of (focused_widget n)
+  focused_answer = sym (focused_means n)
 
   pub last_answer : (id : ℕ) → flag_answer (id_refusal id) (eqb n.id_previous_frame id) ≡ flag_answer (id_refusal id) (Egui.is (option_of n.id_previous_frame) id)
   last_answer id = go (eqb id 0) refl
@@ -143,6 +136,6 @@ module _ (n : Nav) where
 pub layer_answer_lem : (layer : LayerId) → layer_or_nothing layer ≡ layer_answer_of (layer_option layer)
 layer_answer_lem layer = go (eqb layer.id 0)
   where
-    go : (b : Bool) → cond b LayerAnswer.Nothing (LayerAnswer.Is layer) ≡ layer_answer_of (cond b none (some layer))
+    go : (b : Bool) → cond b LayerAnswer.Nothing (LayerAnswer.Is layer) ≡ layer_answer_of (cond b None (Some layer))
     go true = refl
     go false = refl

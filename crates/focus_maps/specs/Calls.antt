@@ -1,6 +1,5 @@
 -- The calls that change Focus, what the record by value means in egui's terms, and what a list of calls leaves of both. Definitions only.
-use Rattle.std.specs.Prelude.{ℕ, cond, List, [], ◌∷◌, eqb, ltb, length}
-use Rattle.std.proofs.Math.Option.{Option, none, some}
+use Rattle.std.specs.Prelude.{ℕ, cond, Option, None, Some, List, [], ◌∷◌, eqb, ltb, length}
 use Rattle.refusal.specs.Refusal.{full, bad_list, lowest, id_refusal, code_refusal, kept}
 use Rattle.refusal.specs.Refusal.{none as notRefused}
 use Rattle.refusal.specs.Limits.{last_direction}
@@ -10,9 +9,6 @@ use Rattle.layers.specs.declared.LayerId.{LayerId}
 use Rattle.layers.specs.Layers.{layer_refusal}
 use Rattle.search.specs.declared.Candidate.{Candidate}
 use Rattle.layer_queries.specs.declared.LayerAnswer.{LayerAnswer}
-use Rattle.layer_queries.specs.declared.LayerAnswer.TheVariants as LayerAnswer
-use Rattle.focus_rules.specs.declared.IdAnswer.{IdAnswer}
-use Rattle.focus_rules.specs.declared.IdAnswer.TheVariants as IdAnswer
 use Rattle.focus_rules.specs.declared.Nav.{Nav}
 use Rattle.focus_rules.specs.Rules.{focused_widget}
 use Rattle.focus_cache.specs.Cache.{enlisted}
@@ -27,10 +23,10 @@ use Rattle.focus_maps.specs.Egui as Egui
 
 -- ---- what the record means: 0 is no id, and a layer of id 0 is none
 abbrev pub option_of : ℕ → Option ℕ
-option_of id = cond (eqb id 0) none (some id)
+option_of id = cond (eqb id 0) None (Some id)
 
 abbrev pub layer_option : LayerId → Option LayerId
-layer_option layer = cond (eqb layer.id 0) none (some layer)
+layer_option layer = cond (eqb layer.id 0) None (Some layer)
 
 abbrev pub meaning : Nav → List Candidate → Egui.Focus
 meaning n cache = record { focused_widget = focused_widget n; id_previous_frame = option_of n.id_previous_frame; id_two_frames_ago = option_of n.id_two_frames_ago; id_next_frame = option_of n.id_next_frame; give_to_next = n.give_to_next; last_interested = option_of n.last_interested; focus_direction = n.focus_direction; top_modal_layer = layer_option n.top_modal_layer; top_modal_layer_current_frame = layer_option n.top_modal_layer_current_frame; focus_widgets_cache = cache }
@@ -39,13 +35,9 @@ abbrev pub meaning_of : Focus → Egui.Focus
 meaning_of f = meaning f.nav (held_of f)
 
 -- how an answer of the port says an option
-abbrev pub id_answer : Option ℕ → IdAnswer
-id_answer none = IdAnswer.Nothing
-id_answer (some id) = IdAnswer.Is id
-
 abbrev pub layer_answer_of : Option LayerId → LayerAnswer
-layer_answer_of none = LayerAnswer.Nothing
-layer_answer_of (some layer) = LayerAnswer.Is layer
+layer_answer_of None = LayerAnswer.Nothing
+layer_answer_of (Some layer) = LayerAnswer.Is layer
 
 -- ---- a call, with the arguments that the code gets
 pub data Call : Type 0 where

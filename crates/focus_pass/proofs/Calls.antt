@@ -1,5 +1,5 @@
 -- Each return of the calls. Assumes nothing.
-use mathlib.Core.Path.{◌≡◌, refl, ◌∙◌}
+use mathlib.Core.Path.{◌≡◌, refl}
 use mathlib.Core.Bool.{Bool, true, false, cond}
 use mathlib.Core.List.{List}
 use Prim.Native.Nat.{ℕ, zero, suc, ◌<◌, ◌≤◌}
@@ -14,22 +14,12 @@ use Rattle.focus_rules.specs.declared.Nav.{Nav}
 use Rattle.focus_rules.specs.Rules.{started_of, filter_of, begun_of, interested_of, let_go}
 use Rattle.focus_rules.proofs.Rules.{not_changed}
 use Rattle.focus_cache.specs.declared.Enlisted.{Enlisted}
-use Rattle.focus_cache.specs.Cache.{has_id, enlisted, without, full_refusal, slot_after, enlisted_of}
+use Rattle.focus_cache.specs.Cache.{enlisted, without, full_refusal, slot_after, enlisted_of}
 use Rattle.focus_pass.specs.declared.Interested.{Interested}
 use Rattle.focus_pass.specs.declared.Listened.{Listened}
 use Rattle.focus_pass.specs.Events.{count_in, events_in}
 use Rattle.focus_pass.specs.Pass.{is_granted, begin_refusal, nav_begun, begin_of, interest_refusal, interest_of, ignore_of}
 use Rattle.focus_pass.proofs.Events.{events_length, listened}
-
--- ---- `is_granted`
-module _ (held : List Candidate) (asked : ℕ) where
-  pub none_asked : asked ≡ 0 → false ≡ is_granted held asked
-  unfolding is_granted
-  none_asked h = rw (eq-eqb asked 0 h)
-
-  pub one_asked : (asked ≡ 0 → ⊥) → (r : Bool) → r ≡ has_id held asked → r ≡ is_granted held asked
-  unfolding is_granted
-  one_asked h r q = q ∙ rw (ne_eqb asked 0 h)
 
 -- ---- `begin_pass`
 module _ (nav : Nav) (held : List Candidate) (words : List ℕ) (n : ℕ) (e : n ≡ count_in words) where
@@ -37,14 +27,14 @@ module _ (nav : Nav) (held : List Candidate) (words : List ℕ) (n : ℕ) (e : n
   unfolding begin_of begin_refusal
   too_many h = rw (events_length words, ← e, lt-ltb eventsLimit n h)
 
-  module _ (h : n ≤ eventsLimit) (start : Nav) (p : start ≡ started_of nav) (filter : EventFilter) (q : filter ≡ filter_of start) (l : Listened) (k : l ≡ listened words filter n) where
+  module _ (h : n ≤ eventsLimit) (start : Nav) (p : start ≡ started_of nav) (filter : EventFilter) (q : filter ≡ filter_of start) (l : Listened) (k : l ≡ listened filter words) where
     few : begin_refusal (events_in words) ≡ l.refusal
-    unfolding begin_refusal events_in
+    unfolding begin_refusal
     few = rw (events_length words, ← e, le-ltb eventsLimit n h, k)
 
     pub begun : l.refusal ≡ none → (granted : Bool) → granted ≡ is_granted held l.heard.asked → (r : Nav) → r ≡ begun_of start l.heard granted → record { refusal = none; nav = r } ≡ begin_of nav held (events_in words)
-    unfolding begin_of nav_begun events_in
-    begun z granted g r s = rw (few, z, s, g, k, q, p, e)
+    unfolding begin_of nav_begun
+    begun z granted g r s = rw (few, z, s, g, k, q, p)
 
     pub not_begun : (l.refusal ≡ none → ⊥) → record { refusal = l.refusal; nav = nav } ≡ begin_of nav held (events_in words)
     unfolding begin_of
@@ -72,7 +62,7 @@ module _ (nav : Nav) (room : ℕ) (held : List Candidate) (count slot id : ℕ) 
     unfolding interest_of interest_refusal enlisted_of lowest
     with_id = rw (ne_eqb id 0 h, p)
 
-    pub interest_taken : e.refusal ≡ none → (r : Nav) → r ≡ interested_of nav id → record { refusal = none; nav = r; count = e.count; slot = e.slot } ≡ interest_of nav room held count slot id
+    pub interest_taken : e.refusal ≡ none → (r : Nav) → r ≡ interested_of nav id → record { refusal = e.refusal; nav = r; count = e.count; slot = e.slot } ≡ interest_of nav room held count slot id
     interest_taken z r q = rw (q, ← with_id, z)
 
     pub interest_refused : (e.refusal ≡ none → ⊥) → record { refusal = e.refusal; nav = nav; count = e.count; slot = e.slot } ≡ interest_of nav room held count slot id

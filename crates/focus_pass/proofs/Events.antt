@@ -1,36 +1,31 @@
 -- The events that numbers are, one at a time, and each turn of the loop over them. Assumes nothing.
-use mathlib.Core.Path.{◌≡◌, refl, ap, ◌∙◌}
-use mathlib.Core.List.{List, [], ◌∷◌}
-use Prim.Native.Nat.{ℕ, zero, suc, ◌+◌, ◌-◌, ◌*◌, ◌/◌, ◌%◌, ◌<◌, ◌≤◌}
-use native.Mathlib.Nat.{not-suc-le-zero, le_of_suc-le-suc}
-use native.Mathlib.Numerals.{add-one}
+use mathlib.Core.Path.{◌≡◌, refl, sym, ap, ◌∙◌}
+use mathlib.Core.Bool.{Bool, true, false, cond}
+use mathlib.Core.List.{List, [], ◌∷◌, ◌++◌, append-nil}
+use Prim.Native.Nat.{ℕ, zero, suc, ◌+◌, ◌*◌, ◌/◌, ◌%◌, min, ◌<◌}
 use native.Mathlib.Omega.{arith}
-use lib.ListN.{length, get_or}
-use borrow.Author.Tests.{eq-eqb, ne_eqb}
+use lib.Dec.{eqb}
+use lib.ListN.{length, get_or, take, drop, length-append, length-drop, drop_of_length-le}
+use lib.Seq.{get_or-take, get_or-drop, take_all, take-append_seam, drop-append_seam}
+use borrow.Author.Tests.{eqb-true, eqb-false}
 use Rattle.refusal.specs.Refusal.{none, lowest}
 use Rattle.input.specs.declared.Event.{Event}
 use Rattle.input.specs.declared.EventFilter.{EventFilter}
 use Rattle.input.specs.Event.{event_refusal}
 use Rattle.focus_rules.specs.Rules.{nothing_heard, heard_of}
 use Rattle.focus_pass.specs.declared.Listened.{Listened}
-use Rattle.focus_pass.specs.Events.{missing, event_of, event_at, events_from, count_in, events_in}
+use Rattle.focus_pass.specs.Events.{missing, event_at, events_from, count_in, events_in}
 use Rattle.focus_pass.specs.Pass.{worst_of, heard_all}
-
--- inside a list it is the same which number stands for one past its end
-get_any : (xs : List ℕ) (i d e : ℕ) → i < length xs → get_or xs i d ≡ get_or xs i e
-get_any [] i d e h = absurd (not-suc-le-zero h)
-get_any (x ∷ xs) zero d e h = refl
-get_any (x ∷ xs) (suc i) d e h = get_any xs i d e (le_of_suc-le-suc h)
 
 module _ (words : List ℕ) where
   -- ---- how many
-  pub whole_count : length words % 4 ≡ 0 → length words / 4 ≡ count_in words
+  count_up : count_in words ≡ (length words + 3) / 4
   unfolding count_in
-  whole_count h = rw (eq-eqb (length words % 4) 0 h) (omega arith)
-
-  pub part_count : (length words % 4 ≡ 0 → ⊥) → length words / 4 + 1 ≡ count_in words
-  unfolding count_in
-  part_count h = rw (ne_eqb (length words % 4) 0 h)
+  count_up = go (eqb (length words % 4) 0) refl
+    where
+      go : (b : Bool) → eqb (length words % 4) 0 ≡ b → length words / 4 + cond b 0 1 ≡ (length words + 3) / 4
+      go true e = omega (arith, eqb-true (length words % 4) 0 e)
+      go false e = omega (arith, eqb-false (length words % 4) 0 e)
 
   from_length : (i n : ℕ) → length (events_from words i n) ≡ n
   unfolding events_from
@@ -41,29 +36,55 @@ module _ (words : List ℕ) where
   unfolding events_in
   events_length = from_length 0 (count_in words)
 
-  -- ---- the event at a place
-  module _ (at : ℕ) (event : Event) where
-    pub event_inside : at + 3 < length words → event ≡ event_of (get_or words at 0) (get_or words (at + 1) 0) (get_or words (at + 1) 0) (get_or words (at + 2) 0) (get_or words (at + 3) 0) → event ≡ event_at words at
-    unfolding event_at
-    event_inside h e = e ∙ rw (get_any words (at + 1) missing 0 (omega arith), get_any words (at + 3) missing 0 (omega arith))
+  -- ---- the first event, and those after it
+  event_lent : event_at (take 4 words) 0 ≡ event_at words 0
+  unfolding event_at
+  event_lent =
+      let same : (i d : ℕ) → i < 4 → get_or (take 4 words) i d ≡ get_or words i d = λ i d h. get_or-take 4 words i d h in
+      rw (same 0 0 (omega arith), same 1 missing (omega arith), same 1 0 (omega arith), same 2 0 (omega arith), same 3 missing (omega arith))
 
-    pub event_past : (kind code id flags modifiers : ℕ) → kind ≡ get_or words at 0 → code ≡ get_or words (at + 1) missing → id ≡ get_or words (at + 1) 0 → flags ≡ get_or words (at + 2) 0 → modifiers ≡ get_or words (at + 3) missing → event ≡ event_of kind code id flags modifiers → event ≡ event_at words at
-    unfolding event_at
-    event_past kind code id flags modifiers a b c d e q = q ∙ rw (a, b, c, d, e)
+  event_later : (i : ℕ) → event_at (drop 4 words) (4 * i) ≡ event_at words (4 * suc i)
+  unfolding event_at
+  event_later i =
+      let same : (o d : ℕ) → get_or (drop 4 words) (4 * i + o) d ≡ get_or words (4 * suc i + o) d = λ o d. get_or-drop 4 words (4 * i + o) d ∙ ap (λ (k : ℕ). get_or words k d) (omega arith) in
+      let first : get_or (drop 4 words) (4 * i) 0 ≡ get_or words (4 * suc i) 0 = get_or-drop 4 words (4 * i) 0 ∙ ap (λ (k : ℕ). get_or words k 0) (omega arith) in
+      rw (first, same 1 missing, same 1 0, same 2 0, same 3 missing)
 
-  -- ---- the loop: what the events from i on make of what was heard before them
-  module _ (filter : EventFilter) where
-    abbrev pub listened_from : Listened → ℕ → ℕ → Listened
-    listened_from l i n = record { refusal = worst_of l.refusal (events_from words i n); heard = heard_all filter l.heard (events_from words i n) }
+  from_later : (i n : ℕ) → events_from words (suc i) n ≡ events_from (drop 4 words) i n
+  unfolding events_from
+  from_later i zero = refl
+  from_later i (suc n) = λ j. sym (event_later i) j ∷ from_later (suc i) n j
 
-    abbrev pub listened : ℕ → Listened
-    listened n = listened_from (record { refusal = none; heard = nothing_heard }) 0 n
+first_event : (words : List ℕ) → 0 < length words → events_in words ≡ event_at (take 4 words) 0 ∷ events_in (drop 4 words)
+unfolding events_in events_from
+first_event words h =
+    let n : count_in words ≡ suc (count_in (drop 4 words)) = omega (arith, count_up words, count_up (drop 4 words), length-drop 4 words) in
+    rw (n, event_lent words) (ap (λ (l : List Event). event_at words 0 ∷ l) (from_later words 0 (count_in (drop 4 words))))
 
-    module _ (l : Listened) (i n : ℕ) where
-      pub listened_more : i < n → (e : Event) → e ≡ event_at words (4 * i) → (r : Listened) → r ≡ record { refusal = lowest l.refusal (event_refusal e); heard = heard_of filter l.heard e } → listened_from r (i + 1) (n - (i + 1)) ≡ listened_from l i (n - i)
-      unfolding events_from worst_of heard_all
-      listened_more h e p r q = let k : n - i ≡ suc (n - (i + 1)) = omega arith in rw (k, q, p, add-one)
+-- the numbers of the first event, where the slice is cut after them
+cut : (row rest : List ℕ) → length row ≡ min 4 (length (row ++ rest)) → (take 4 (row ++ rest) ≡ row) × (drop 4 (row ++ rest) ≡ rest)
+cut row [] h = rw (append-nil row) (take_all 4 row (omega (arith, h, length-append row [])), drop_of_length-le row {i = 4} (omega (arith, h, length-append row [])))
+cut row (y ∷ ys) h =
+    let e : 4 ≡ length row = omega (arith, h, length-append row (y ∷ ys)) in
+    rw e (take-append_seam row (y ∷ ys), drop-append_seam row (y ∷ ys))
 
-      pub listened_all : n ≤ i → l ≡ listened_from l i (n - i)
-      unfolding events_from worst_of heard_all
-      listened_all h = let k : n - i ≡ 0 = omega arith in rw k
+-- ---- the loop: what the events that are left make of what was heard before them
+module _ (filter : EventFilter) where
+  abbrev pub listened_from : Listened → List ℕ → Listened
+  listened_from l words = record { refusal = worst_of l.refusal (events_in words); heard = heard_all filter l.heard (events_in words) }
+
+  abbrev pub listened : List ℕ → Listened
+  listened words = listened_from (record { refusal = none; heard = nothing_heard }) words
+
+  pub listened_more : (l : Listened) (words row rest : List ℕ) → words ≡ row ++ rest → length row ≡ min 4 (length words) → 0 < length words
+      → (e : Event) → e ≡ event_at row 0 → (r : Listened) → r ≡ record { refusal = lowest l.refusal (event_refusal e); heard = heard_of filter l.heard e } → listened_from r rest ≡ listened_from l words
+  unfolding worst_of heard_all
+  listened_more l words row rest w n h e p r q =
+      let (a, b) = cut row rest (rw w at n) in
+      let k : events_in words ≡ event_at row 0 ∷ events_in rest = rw w (rw (a, b) at (first_event (row ++ rest) (rw w at h))) in
+      rw (k, q, p)
+
+  pub listened_all : (l : Listened) (words : List ℕ) → length words ≡ 0 → l ≡ listened_from l words
+  unfolding events_in count_in events_from worst_of heard_all
+  listened_all l [] h = refl
+  listened_all l (w ∷ words) h = absurd (omega arith)

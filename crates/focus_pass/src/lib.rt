@@ -41,14 +41,11 @@ pub struct Ignored {
 const MISSING: u64 = 18446744073709551615;
 
 // How many events the numbers are; one that is not whole counts.
+#[tactic(auto, unfolding(crate::specs::Events::count_in))]
 fn event_count(words: &[u64]) -> usize
     ensures { result ≡ count_in words.now }
 {
-    let n = words.len() / 4;
-    if words.len() % 4 == 0 {
-        return n;
-    }
-    n + 1
+    words.len().div_ceil(4)
 }
 
 // The event of four numbers; the second is a code for a key, and an id for a request.
@@ -67,26 +64,20 @@ fn event_of(kind: u64, code: u64, id: u64, flags: u64, modifiers: u64) -> Event
     }
 }
 
-// The event whose numbers start at a place. A code that is missing is past the last, and an id that is missing is 0.
-fn event(words: &[u64], at: usize) -> Event
-    requires { at ≤ 1000 }
-    ensures { result ≡ event_at words.now at }
+// The event of the numbers of one. A code that is missing is past the last, and an id that is missing is 0.
+#[tactic(auto, unfolding(crate::specs::Events::event_at))]
+fn event(row: &[u64]) -> Event
+    ensures { result ≡ event_at row.now 0 }
 {
-    if at + 3 < words.len() {
-        return event_of(
-            words[at],
-            words[at + 1],
-            words[at + 1],
-            words[at + 2],
-            words[at + 3],
-        );
+    if let &[kind, code, flags, modifiers] = row {
+        return event_of(kind, code, code, flags, modifiers);
     }
     event_of(
-        tables::at_or(words, at, 0),
-        tables::at_or(words, at + 1, MISSING),
-        tables::at_or(words, at + 1, 0),
-        tables::at_or(words, at + 2, 0),
-        tables::at_or(words, at + 3, MISSING),
+        tables::at_or(row, 0, 0),
+        tables::at_or(row, 1, MISSING),
+        tables::at_or(row, 1, 0),
+        tables::at_or(row, 2, 0),
+        tables::at_or(row, 3, MISSING),
     )
 }
 
@@ -100,26 +91,21 @@ struct Listened {
 fn lower(a: u64, b: u64) -> u64
     ensures { result ≡ lowest a b }
 {
-    if b == NONE {
-        return a;
-    }
-    refusal::lowest(a, b)
+    if b == NONE { a } else { refusal::lowest(a, b) }
 }
 
 // One event more.
 fn listen(so_far: Listened, filter: EventFilter, event: Event) -> Listened
     ensures { result ≡ record { refusal = lowest so_far.refusal (event_refusal event); heard = heard_of filter so_far.heard event } }
 {
-    let heard = so_far.heard;
     Listened {
         refusal: lower(so_far.refusal, event.refusal()),
-        heard: navigation::heard(heard, filter, event),
+        heard: navigation::heard(so_far.heard, filter, event),
     }
 }
 
-fn listen_to(words: &[u64], n: usize, filter: EventFilter) -> Listened
-    requires { n ≤ 64 }
-    ensures { result ≡ record { refusal = worst_of none (events_from words.now 0 n); heard = heard_all filter nothing_heard (events_from words.now 0 n) } }
+fn listen_to(words: &[u64], filter: EventFilter) -> Listened
+    ensures { result ≡ record { refusal = worst_of none (events_in words.now); heard = heard_all filter nothing_heard (events_in words.now) } }
 {
     let mut so_far = Listened {
         refusal: NONE,
@@ -129,46 +115,40 @@ fn listen_to(words: &[u64], n: usize, filter: EventFilter) -> Listened
             asked: 0,
         },
     };
-    let mut i: usize = 0;
-    while i < n {
-        so_far = listen(so_far, filter, event(words, 4 * i));
-        i += 1;
+    for row in words.chunks(4) {
+        so_far = listen(so_far, filter, event(row));
     }
     so_far
 }
 
+#[tactic(auto, unfolding(crate::specs::Pass::is_granted))]
 fn is_granted(ids: &[u64], rects: &[f32], count: usize, asked: u64) -> bool
     ensures { result ≡ is_granted (held_in count ids.now rects.now) asked }
 {
-    if asked == 0 {
-        return false;
-    }
-    focus_cache::contains(ids, rects, count, asked)
+    asked != 0 && focus_cache::contains(ids, rects, count, asked)
 }
 
 pub fn begin_pass(nav: Nav, ids: &[u64], rects: &[f32], count: usize, events: &[u64]) -> Changed
     ensures { result ≡ begin_of nav (held_in count ids.now rects.now) (events_in events.now) }
 {
-    let n = event_count(events);
-    if EVENTS < n {
+    if EVENTS < event_count(events) {
         return Changed {
             refusal: BAD_LIST,
-            nav: nav,
+            nav,
         };
     }
     let start = navigation::started(nav);
-    let so_far = listen_to(events, n, navigation::event_filter(start));
+    let so_far = listen_to(events, navigation::event_filter(start));
     if so_far.refusal == NONE {
-        let heard = so_far.heard;
-        let granted = is_granted(ids, rects, count, heard.asked);
+        let granted = is_granted(ids, rects, count, so_far.heard.asked);
         return Changed {
             refusal: NONE,
-            nav: navigation::begun(start, heard, granted),
+            nav: navigation::begun(start, so_far.heard, granted),
         };
     }
     Changed {
         refusal: so_far.refusal,
-        nav: nav,
+        nav,
     }
 }
 
@@ -185,23 +165,19 @@ pub fn interested_in_focus(
     if id == 0 {
         return Interested {
             refusal: ZERO_ID,
-            nav: nav,
-            count: count,
-            slot: slot,
+            nav,
+            count,
+            slot,
         };
     }
     let e = focus_cache::enlist(ids, rects, count, slot, id);
-    if e.refusal == NONE {
-        return Interested {
-            refusal: NONE,
-            nav: navigation::interested(nav, id),
-            count: e.count,
-            slot: e.slot,
-        };
-    }
     Interested {
         refusal: e.refusal,
-        nav: nav,
+        nav: if e.refusal == NONE {
+            navigation::interested(nav, id)
+        } else {
+            nav
+        },
         count: e.count,
         slot: e.slot,
     }
@@ -214,14 +190,13 @@ pub fn ignore_focus(nav: Nav, ids: &mut [u64], rects: &mut [f32], count: usize, 
     if id == 0 {
         return Ignored {
             refusal: ZERO_ID,
-            nav: nav,
-            count: count,
+            nav,
+            count,
         };
     }
-    let kept = focus_cache::remove(ids, rects, count, id);
     Ignored {
         refusal: NONE,
+        count: focus_cache::remove(ids, rects, count, id),
         nav: focus_calls::let_go(nav, id),
-        count: kept,
     }
 }

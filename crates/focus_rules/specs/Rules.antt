@@ -1,49 +1,44 @@
 -- Focus of memory/mod.rs (lines 503 to 538) without its cache, and what its methods and those of Memory do to these fields (lines 563 to 706 and 908 to 957). Definitions only.
-use Rattle.std.specs.Prelude.{ℕ, zero, suc, Bool, true, false, not, ◌&&◌, cond, eqb}
+use Rattle.std.specs.Prelude.{ℕ, zero, suc, Bool, true, false, not, ◌&&◌, cond, Option, None, Some, eqb}
 use Rattle.input.specs.declared.Event.{Event}
 use Rattle.input.specs.declared.Event.TheVariants.{Key, AccessKitFocus, Pointer, Zoom, Other}
 use Rattle.input.specs.declared.EventFilter.{EventFilter}
 use Rattle.input.specs.declared.Navigation.{Navigation}
-use Rattle.input.specs.declared.Navigation.TheVariants as Navigation
 use Rattle.input.specs.EventFilter.{default_filter, matches_key}
 use Rattle.input.specs.FocusDirection.{previous, next, no_direction, navigation_of}
 use Rattle.layers.specs.declared.LayerId.{LayerId}
 use Rattle.layer_queries.specs.declared.LayerAnswer.{LayerAnswer}
-use Rattle.layer_queries.specs.declared.LayerAnswer.TheVariants as LayerAnswer
 use Rattle.focus_rules.specs.declared.Nav.{Nav}
 use Rattle.focus_rules.specs.declared.Heard.{Heard}
 use Rattle.focus_rules.specs.declared.Changed.{Changed}
 use Rattle.focus_rules.specs.declared.FocusWidget.{FocusWidget}
-use Rattle.focus_rules.specs.declared.FocusWidget.TheVariants.{Absent, Held}
-use Rattle.focus_rules.specs.declared.IdAnswer.{IdAnswer}
-use Rattle.focus_rules.specs.declared.IdAnswer.TheVariants as IdAnswer
 
--- ---- one field anew
+-- ---- some fields anew
 module _ (n : Nav) where
   abbrev pub with_focus : ℕ → EventFilter → Nav
-  with_focus id filter = record { focused = id; filter = filter; id_previous_frame = n.id_previous_frame; id_two_frames_ago = n.id_two_frames_ago; id_next_frame = n.id_next_frame; give_to_next = n.give_to_next; last_interested = n.last_interested; focus_direction = n.focus_direction; top_modal_layer = n.top_modal_layer; top_modal_layer_current_frame = n.top_modal_layer_current_frame }
+  with_focus id filter = record n { focused = id; filter = filter }
 
   -- `focused_widget = Some(FocusWidget::new(id))`; of id 0, `None`
   abbrev pub focus_on : ℕ → Nav
   focus_on id = with_focus id default_filter
 
   abbrev pub with_frames : ℕ → ℕ → Nav
-  with_frames last before = record { focused = n.focused; filter = n.filter; id_previous_frame = last; id_two_frames_ago = before; id_next_frame = n.id_next_frame; give_to_next = n.give_to_next; last_interested = n.last_interested; focus_direction = n.focus_direction; top_modal_layer = n.top_modal_layer; top_modal_layer_current_frame = n.top_modal_layer_current_frame }
+  with_frames last before = record n { id_previous_frame = last; id_two_frames_ago = before }
 
   abbrev pub with_next : ℕ → Nav
-  with_next id = record { focused = n.focused; filter = n.filter; id_previous_frame = n.id_previous_frame; id_two_frames_ago = n.id_two_frames_ago; id_next_frame = id; give_to_next = n.give_to_next; last_interested = n.last_interested; focus_direction = n.focus_direction; top_modal_layer = n.top_modal_layer; top_modal_layer_current_frame = n.top_modal_layer_current_frame }
+  with_next id = record n { id_next_frame = id }
 
   abbrev pub with_give : Bool → Nav
-  with_give give = record { focused = n.focused; filter = n.filter; id_previous_frame = n.id_previous_frame; id_two_frames_ago = n.id_two_frames_ago; id_next_frame = n.id_next_frame; give_to_next = give; last_interested = n.last_interested; focus_direction = n.focus_direction; top_modal_layer = n.top_modal_layer; top_modal_layer_current_frame = n.top_modal_layer_current_frame }
+  with_give give = record n { give_to_next = give }
 
   abbrev pub with_last : ℕ → Nav
-  with_last id = record { focused = n.focused; filter = n.filter; id_previous_frame = n.id_previous_frame; id_two_frames_ago = n.id_two_frames_ago; id_next_frame = n.id_next_frame; give_to_next = n.give_to_next; last_interested = id; focus_direction = n.focus_direction; top_modal_layer = n.top_modal_layer; top_modal_layer_current_frame = n.top_modal_layer_current_frame }
+  with_last id = record n { last_interested = id }
 
   abbrev pub with_direction : ℕ → Nav
-  with_direction direction = record { focused = n.focused; filter = n.filter; id_previous_frame = n.id_previous_frame; id_two_frames_ago = n.id_two_frames_ago; id_next_frame = n.id_next_frame; give_to_next = n.give_to_next; last_interested = n.last_interested; focus_direction = direction; top_modal_layer = n.top_modal_layer; top_modal_layer_current_frame = n.top_modal_layer_current_frame }
+  with_direction direction = record n { focus_direction = direction }
 
   abbrev pub with_modals : LayerId → LayerId → Nav
-  with_modals top current = record { focused = n.focused; filter = n.filter; id_previous_frame = n.id_previous_frame; id_two_frames_ago = n.id_two_frames_ago; id_next_frame = n.id_next_frame; give_to_next = n.give_to_next; last_interested = n.last_interested; focus_direction = n.focus_direction; top_modal_layer = top; top_modal_layer_current_frame = current }
+  with_modals top current = record n { top_modal_layer = top; top_modal_layer_current_frame = current }
 
   -- reset_focus
   abbrev pub reset_focus : Nav
@@ -58,19 +53,19 @@ abbrev pub new_nav : Nav
 new_nav = record { focused = 0; filter = default_filter; id_previous_frame = 0; id_two_frames_ago = 0; id_next_frame = 0; give_to_next = false; last_interested = 0; focus_direction = no_direction; top_modal_layer = no_layer; top_modal_layer_current_frame = no_layer }
 
 -- ---- what the fields say
-abbrev pub focused_widget : Nav → FocusWidget
-focused_widget n = cond (eqb n.focused 0) Absent (Held n.focused n.filter)
+abbrev pub focused_widget : Nav → Option FocusWidget
+focused_widget n = cond (eqb n.focused 0) None (Some (record { id = n.focused; filter = n.filter }))
 
 -- `map(|w| w.filter).unwrap_or_default()`
-abbrev pub filter_in : FocusWidget → EventFilter
-filter_in Absent = default_filter
-filter_in (Held id filter) = filter
+abbrev pub filter_in : Option FocusWidget → EventFilter
+filter_in None = default_filter
+filter_in (Some w) = w.filter
 
 unfoldable pub filter_of : Nav → EventFilter
 filter_of n = filter_in (focused_widget n)
 
-abbrev pub id_or_nothing : ℕ → IdAnswer
-id_or_nothing id = cond (eqb id 0) IdAnswer.Nothing (IdAnswer.Is id)
+abbrev pub id_or_nothing : ℕ → Option ℕ
+id_or_nothing id = cond (eqb id 0) None (Some id)
 
 abbrev pub layer_or_nothing : LayerId → LayerAnswer
 layer_or_nothing layer = cond (eqb layer.id 0) LayerAnswer.Nothing (LayerAnswer.Is layer)
@@ -88,12 +83,12 @@ nothing_heard = record { escaped = 0; direction = no_direction; asked = 0 }
 
 abbrev pub turned_by : Heard → Navigation → Heard
 turned_by h Navigation.Unchanged = h
-turned_by h (Navigation.Direction d) = record { escaped = h.escaped; direction = d; asked = h.asked }
-turned_by h Navigation.Escape = record { escaped = 1; direction = no_direction; asked = h.asked }
+turned_by h (Navigation.Direction d) = record h { direction = d }
+turned_by h Navigation.Escape = record h { escaped = 1; direction = no_direction }
 
 abbrev pub heard_of : EventFilter → Heard → Event → Heard
 heard_of filter h (Key key pressed repeat modifiers) = cond (not (matches_key filter key) && pressed) (turned_by h (navigation_of key modifiers)) h
-heard_of filter h (AccessKitFocus id) = record { escaped = h.escaped; direction = h.direction; asked = id }
+heard_of filter h (AccessKitFocus id) = record h { asked = id }
 heard_of filter h (Pointer x y) = h
 heard_of filter h (Zoom factor) = h
 heard_of filter h Other = h

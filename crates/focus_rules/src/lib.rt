@@ -14,6 +14,7 @@ use layers::LayerId;
 // FocusDirection::None.
 pub const NO_DIRECTION: u64 = 6;
 
+// C programs hold it, so no field is an option: 0 is no id, and a layer of id 0 is none.
 #[derive(Clone, Copy)]
 #[repr(C)]
 pub struct Nav {
@@ -31,15 +32,9 @@ pub struct Nav {
 }
 
 #[derive(Clone, Copy)]
-pub enum FocusWidget {
-    Absent,
-    Held(u64, EventFilter),
-}
-
-#[derive(Clone, Copy)]
-pub enum IdAnswer {
-    Nothing,
-    Is(u64),
+pub struct FocusWidget {
+    pub id: u64,
+    pub filter: EventFilter,
 }
 
 // A call's refusal, and the fields after it.

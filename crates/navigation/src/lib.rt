@@ -15,14 +15,13 @@ fn turned(so_far: Heard, navigation: Navigation) -> Heard
     match navigation {
         Navigation::Unchanged => so_far,
         Navigation::Direction(direction) => Heard {
-            escaped: so_far.escaped,
-            direction: direction,
-            asked: so_far.asked,
+            direction,
+            ..so_far
         },
         Navigation::Escape => Heard {
             escaped: 1,
             direction: NO_DIRECTION,
-            asked: so_far.asked,
+            ..so_far
         },
     }
 }
@@ -34,92 +33,90 @@ pub fn heard(so_far: Heard, filter: EventFilter, event: Event) -> Heard
     match event {
         Event::Key {
             key,
-            pressed,
-            repeat: _,
+            pressed: true,
             modifiers,
-        } => {
-            if filter.matches_key(key) {
-                return so_far;
-            }
-            if pressed {
-                return turned(so_far, input::navigate(key, modifiers));
-            }
-            so_far
-        }
+            ..
+        } if !filter.matches_key(key) => turned(so_far, input::navigate(key, modifiers)),
         Event::AccessKitFocus(id) => Heard {
-            escaped: so_far.escaped,
-            direction: so_far.direction,
             asked: id,
+            ..so_far
         },
-        Event::Pointer(_, _) => so_far,
-        Event::Zoom(_) => so_far,
-        Event::Other => so_far,
+        _ => so_far,
     }
 }
 
-pub fn focused_widget(nav: Nav) -> FocusWidget
+pub fn focused_widget(nav: Nav) -> Option<FocusWidget>
     ensures { result ≡ focused_widget nav }
 {
     if nav.focused == 0 {
-        return FocusWidget::Absent;
+        None
+    } else {
+        Some(FocusWidget {
+            id: nav.focused,
+            filter: nav.filter,
+        })
     }
-    let filter = nav.filter;
-    FocusWidget::Held(nav.focused, filter)
 }
 
 // The focused widget's filter, or the default.
+#[tactic(auto, unfolding(focus_rules::specs::Rules::filter_of))]
 pub fn event_filter(nav: Nav) -> EventFilter
     ensures { result ≡ filter_of nav }
 {
-    let FocusWidget::Held(_, filter) = focused_widget(nav) else {
-        return EventFilter::new();
-    };
-    filter
+    focused_widget(nav).map_or(EventFilter::new(), |w| w.filter)
 }
 
 // Focuses an id, with the default filter; 0 focuses none.
 pub fn focus_on(nav: Nav, id: u64) -> Nav
     ensures { result ≡ focus_on nav id }
 {
-    let filter = EventFilter::new();
-    let mut out = nav;
-    out.focused = id;
-    out.filter = filter;
-    out
+    Nav {
+        focused: id,
+        filter: EventFilter::new(),
+        ..nav
+    }
 }
 
 // ---- `begin_pass`: up to the events, and what they come to
 
+#[tactic(auto, unfolding(focus_rules::specs::Rules::started_of))]
 pub fn started(nav: Nav) -> Nav
     ensures { result ≡ started_of nav }
 {
-    let mut out = nav;
-    out.id_two_frames_ago = nav.id_previous_frame;
-    out.id_previous_frame = nav.focused;
-    out.focus_direction = NO_DIRECTION;
+    let out = Nav {
+        id_two_frames_ago: nav.id_previous_frame,
+        id_previous_frame: nav.focused,
+        id_next_frame: 0,
+        focus_direction: NO_DIRECTION,
+        ..nav
+    };
     if nav.id_next_frame == 0 {
-        return out;
+        out
+    } else {
+        focus_on(out, nav.id_next_frame)
     }
-    out.id_next_frame = 0;
-    focus_on(out, nav.id_next_frame)
 }
 
 // `cached`: the id asked for is in the cache.
+#[tactic(auto, unfolding(focus_rules::specs::Rules::begun_of))]
 pub fn begun(nav: Nav, heard: Heard, cached: bool) -> Nav
     ensures { result ≡ begun_of nav heard cached }
 {
+    let out = Nav {
+        focus_direction: heard.direction,
+        ..nav
+    };
     if cached {
-        let mut out = focus_on(nav, heard.asked);
-        out.give_to_next = false;
-        out.focus_direction = NO_DIRECTION;
-        return out;
+        Nav {
+            give_to_next: false,
+            focus_direction: NO_DIRECTION,
+            ..focus_on(nav, heard.asked)
+        }
+    } else if heard.escaped != 0 {
+        focus_on(out, 0)
+    } else {
+        out
     }
-    let mut out = nav;
-    out.focus_direction = heard.direction;
-    if heard.escaped != 0 {
-        return focus_on(out, 0);
-    }
-    out
 }
 
 // ---- `interested_in_focus`: the first rule that fits
@@ -128,83 +125,78 @@ pub fn begun(nav: Nav, heard: Heard, cached: bool) -> Nav
 fn gives_to(nav: Nav, id: u64) -> bool
     ensures { result ≡ gives nav id }
 {
-    if nav.give_to_next {
-        return nav.id_previous_frame != id;
-    }
-    false
+    nav.give_to_next && nav.id_previous_frame != id
 }
 
 // None is focused, and no Tab hand-over waits.
 fn is_idle(nav: Nav) -> bool
     ensures { result ≡ is_idle nav }
 {
-    if nav.focused == 0 {
-        return !nav.give_to_next;
-    }
-    false
+    nav.focused == 0 && !nav.give_to_next
 }
 
+#[tactic(auto, unfolding(focus_rules::specs::Rules::interested_of))]
 pub fn interested(nav: Nav, id: u64) -> Nav
     ensures { result ≡ interested_of nav id }
 {
-    let mut out = nav;
-    out.last_interested = id;
+    let out = Nav {
+        last_interested: id,
+        ..nav
+    };
+    let turned = Nav {
+        focus_direction: NO_DIRECTION,
+        ..out
+    };
     if gives_to(nav, id) {
-        out.give_to_next = false;
-        return focus_on(out, id);
+        Nav {
+            give_to_next: false,
+            ..focus_on(out, id)
+        }
+    } else if nav.focused == id {
+        match nav.focus_direction {
+            NEXT => Nav {
+                give_to_next: true,
+                ..focus_on(turned, 0)
+            },
+            PREVIOUS => Nav {
+                id_next_frame: nav.last_interested,
+                ..turned
+            },
+            _ => out,
+        }
+    } else if is_idle(nav) {
+        match nav.focus_direction {
+            NEXT => focus_on(turned, id),
+            PREVIOUS => focus_on(turned, nav.last_interested),
+            _ => out,
+        }
+    } else {
+        out
     }
-    if nav.focused == id {
-        if nav.focus_direction == NEXT {
-            out.give_to_next = true;
-            out.focus_direction = NO_DIRECTION;
-            return focus_on(out, 0);
-        }
-        if nav.focus_direction == PREVIOUS {
-            out.id_next_frame = nav.last_interested;
-            out.focus_direction = NO_DIRECTION;
-            return out;
-        }
-        return out;
-    }
-    if is_idle(nav) {
-        if nav.focus_direction == NEXT {
-            out.focus_direction = NO_DIRECTION;
-            return focus_on(out, id);
-        }
-        if nav.focus_direction == PREVIOUS {
-            out.focus_direction = NO_DIRECTION;
-            return focus_on(out, nav.last_interested);
-        }
-        return out;
-    }
-    out
 }
 
 // ---- `end_pass`: what an arrow found, then the drop of a focus that is not used, and the modal hand-over
 
+#[tactic(auto, unfolding(focus_rules::specs::Rules::found_of))]
 pub fn found(nav: Nav, id: u64) -> Nav
     ensures { result ≡ found_of nav id }
 {
-    if id == 0 {
-        return nav;
-    }
-    focus_on(nav, id)
+    if id == 0 { nav } else { focus_on(nav, id) }
 }
 
 // `used`: the focused id is among the used entries.
+#[tactic(auto, unfolding(focus_rules::specs::Rules::ended_of))]
 pub fn ended(nav: Nav, used: bool) -> Nav
     ensures { result ≡ ended_of nav used }
 {
-    let modal = nav.top_modal_layer_current_frame;
-    let no_layer = LayerId { order: 0, id: 0 };
-    let mut out = nav;
-    out.top_modal_layer = modal;
-    out.top_modal_layer_current_frame = no_layer;
-    if used {
-        return out;
+    let out = Nav {
+        top_modal_layer: nav.top_modal_layer_current_frame,
+        top_modal_layer_current_frame: LayerId { order: 0, id: 0 },
+        ..nav
+    };
+    if nav.id_previous_frame == nav.focused && !used {
+        focus_on(out, 0)
+    } else {
+        out
     }
-    if nav.id_previous_frame == nav.focused {
-        return focus_on(out, 0);
-    }
-    out
 }

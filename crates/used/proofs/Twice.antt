@@ -4,18 +4,16 @@ use Prim.Native.Nat.{ℕ, zero, suc, ◌+◌, ◌*◌, ◌/◌, ◌%◌, max, �
 use native.Mathlib.Decide.{ℕ_discrete}
 use native.Mathlib.Nat.{not-suc-le-zero, le_of_suc-le-suc}
 use native.Mathlib.Omega.{arith}
-use mathlib.Core.Bool.{Bool, true, false, or-true, true≢false, false≢true}
+use mathlib.Core.Bool.{Bool, true, false, or-true}
 use mathlib.Core.List.{List, [], ◌∷◌}
 use lib.Arith.{bin_ind, digits_mod}
 use lib.Bits.{bit_or, or_step, or_comm, or_self, or_shr}
-use lib.ListN.{length, get_or, set, replicate, length-set}
-use lib.Seq.{get_or-set_same, get_or-set_other}
-use borrow.Author.Tests.{eq-eqb, ne_eqb}
-use Rattle.tables.specs.Tables.{last_below}
-use Rattle.tables.specs.declared.Found.{Found}
-use Rattle.tables.specs.declared.Found.TheVariants.{At, Nothing}
-use Rattle.tables.proofs.Finding.{last_at, last_none}
-use Rattle.used.specs.Used.{elem, repeated, is_found}
+use lib.Dec.{eqb}
+use lib.ListN.{length, get_or, take, set, replicate, length-set, length-take}
+use lib.Seq.{get_or-take, get_or-set_same, get_or-set_other}
+use borrow.Author.Tests.{eq-eqb, ne_eqb, eqb-true, eqb-false}
+use Rattle.std.specs.List.{IsAnyAnswer}
+use Rattle.used.specs.Used.{elem, repeated}
 
 -- ---- whether a list has an id, by its places
 elem_at : (xs : List ℕ) (x i : ℕ) → i < length xs → get_or xs i 0 ≡ x → elem xs x ≡ true
@@ -83,20 +81,18 @@ pub none_shown : (ids : List ℕ) → Shown ids (replicate 1013 0) 0
 none_shown ids = record { full = refl; shown = λ j l. absurd (not-suc-le-zero l); all_new = λ j l. absurd (not-suc-le-zero l) }
 
 module _ (ids : List ℕ) (i : ℕ) where
-  module _ (t : Bool) (e : t ≡ is_found (last_below ids i (get_or ids i 0))) where
+  -- what `contains` says of the ids before i
+  module _ (t : Bool) (e : IsAnyAnswer (λ y b. eqb y (get_or ids i 0) ≡ b) (take i ids) t) where
     pub unfound_new : i < length ids → t ≡ false → New ids i
-    unfound_new h f j l = last_none ids (get_or ids i 0) i j (go (last_below ids i (get_or ids i 0)) (sym e ∙ f)) l (omega arith)
-      where
-        go : (f : Found) → is_found f ≡ false → f ≡ Nothing
-        go (At k) h = absurd (true≢false h)
-        go Nothing h = refl
+    unfound_new h f j l q =
+        let none = rw f at e in
+        eqb-false _ _ (none j 0 (omega arith) (omega (arith, length-take i ids))) (get_or-take i ids j 0 l ∙ q)
 
     pub found_twice : i < length ids → t ≡ true → true ≡ repeated ids
-    found_twice h f = go (last_below ids i (get_or ids i 0)) refl (sym e ∙ f)
-      where
-        go : (f : Found) → last_below ids i (get_or ids i 0) ≡ f → is_found f ≡ true → true ≡ repeated ids
-        go (At k) p f = let (l, _, q) = last_at ids (get_or ids i 0) i k p in sym (twice ids k i l h q)
-        go Nothing p f = absurd (false≢true f)
+    found_twice h f =
+        let (k, b, same) = rw f at e in
+        let l : k < i = omega (arith, b, length-take i ids) in
+        sym (twice ids k i l h (sym (get_or-take i ids k 0 l) ∙ eqb-true _ _ (same 0)))
 
   module _ (cells : List ℕ) (m : Shown ids cells i) where
     abbrev here : ℕ

@@ -1,11 +1,9 @@
 -- `used_ids` of memory/mod.rs (`end_pass`, line 635), a map from ids to rectangles, as the list of entries that the caller gives, and document 01's refusals of it. Definitions only.
-use Rattle.std.specs.Prelude.{ℕ, suc, ◌+◌, ◌*◌, Bool, true, false, cond, ◌||◌, List, [], ◌∷◌, map, eqb, ltb, Float, length, get_or}
+use Rattle.std.specs.Prelude.{ℕ, suc, ◌+◌, ◌*◌, Bool, false, cond, ◌||◌, List, [], ◌∷◌, map, eqb, ltb, Float, length, get_or}
 use Rattle.std.specs.Float.{nan}
 use Rattle.refusal.specs.Refusal.{none, bad_list, lowest, id_refusal}
 use Rattle.emath.specs.declared.Rect.{Rect}
 use Rattle.grid.specs.Grid.{rect_refusal}
-use Rattle.tables.specs.declared.Found.{Found}
-use Rattle.tables.specs.declared.Found.TheVariants.{At, Nothing}
 use Rattle.search.specs.declared.Candidate.{Candidate}
 
 -- ---- the entries: an id and four corners each; a corner that is missing is NaN
@@ -30,11 +28,6 @@ elem (y ∷ ys) x = eqb y x || elem ys x
 unfoldable pub repeated : List ℕ → Bool
 repeated [] = false
 repeated (x ∷ xs) = elem xs x || repeated xs
-
--- for the code's scans
-abbrev pub is_found : Found → Bool
-is_found (At k) = true
-is_found Nothing = false
 
 -- ---- the refusals: too many entries before anything else; then the lowest that applies to any
 abbrev pub entry_refusal : Candidate → ℕ

@@ -4,57 +4,40 @@
 ghost use Rattle.std.specs.Prelude.{◌≡◌, ◌*◌};
 ghost use Rattle.refusal.specs.Refusal.{none};
 ghost use Rattle.grid.specs.Grid.{rect_refusal};
-ghost use Rattle.tables.specs.Tables.{last_below};
-ghost use Rattle.used.specs.Used.{rect_from, entries_in, is_found, repeated, worst_of, used_refusal};
+ghost use Rattle.used.specs.Used.{rect_from, entries_in, repeated, worst_of, used_refusal};
 
 use emath::{Pos2, Rect};
 use refusal::{BAD_LIST, NONE, OFF_GRID};
-use tables::Found;
 
 // As many cells as a prime near 1,024 whose reciprocal fits in 64 bits, so that the remainder is quick.
 const CELLS: u64 = 1013;
-
-// Whether an id stands at a place below n.
-fn stands_below(ids: &[u64], n: usize, id: u64) -> bool
-    ensures { result ≡ is_found (last_below ids.now n id) }
-{
-    match tables::find_below(ids, n, id) {
-        Found::At(_) => true,
-        Found::Nothing => false,
-    }
-}
 
 // Whether an id stands twice. Each id sets bits in its cell; the ids before it are looked at only where all of them are set already.
 pub fn repeats(ids: &[u64]) -> bool
     ensures { result ≡ repeated ids.now }
 {
     let mut cells = [0u16; 1013];
-    let mut i: usize = 0;
-    while i < ids.len() {
-        let id = ids[i];
+    for (i, &id) in ids.iter().enumerate() {
         let cell = (id % CELLS) as usize;
         // By 9 and 49, of two ids below 4,052 in one cell neither has all the bits of the other.
         let bits = ((id / CELLS % 65536 * 9 + 49) % 65536) as u16;
-        let seen = cells[cell];
-        let joined = seen | bits;
-        if joined == seen {
-            if stands_below(ids, i, id) {
-                return true;
-            }
+        let joined = cells[cell] | bits;
+        if joined == cells[cell] && ids[..i].contains(&id) {
+            return true;
         }
         cells[cell] = joined;
-        i += 1;
     }
     false
 }
 
 // A rectangle of which a corner is missing is off the grid.
+#[tactic(auto, using(crate::proofs::Corners::corner_missing))]
 fn rect_refusal(corners: &[f32], i: usize) -> u64
     ensures { result ≡ rect_refusal (rect_from corners.now (4 * i)) }
 {
     if i < corners.len() / 4 {
         let at = 4 * i;
-        let rect = Rect {
+        grid::rect(Rect {
             min: Pos2 {
                 x: corners[at],
                 y: corners[at + 1],
@@ -63,10 +46,10 @@ fn rect_refusal(corners: &[f32], i: usize) -> u64
                 x: corners[at + 2],
                 y: corners[at + 3],
             },
-        };
-        return grid::rect(rect);
+        })
+    } else {
+        OFF_GRID
     }
-    OFF_GRID
 }
 
 // The lowest refusal of an entry.
@@ -74,16 +57,15 @@ fn worst(ids: &[u64], corners: &[f32]) -> u64
     ensures { result ≡ worst_of none (entries_in ids.now corners.now) }
 {
     let mut refusal = NONE;
-    let mut i: usize = 0;
-    while i < ids.len() {
-        let entry = refusal::lowest(refusal::id_refusal(ids[i]), rect_refusal(corners, i));
+    for (i, &id) in ids.iter().enumerate() {
+        let entry = refusal::lowest(refusal::id_refusal(id), rect_refusal(corners, i));
         refusal = refusal::lowest(refusal, entry);
-        i += 1;
     }
     refusal
 }
 
 // By what number a pass that ends with these entries is refused, 0 if it is taken.
+#[tactic(auto, using(crate::proofs::Entries::too_many, crate::proofs::Entries::repeated_too, crate::proofs::Entries::only_entries))]
 pub fn refusal(ids: &[u64], corners: &[f32], limit: usize) -> u64
     ensures { result ≡ used_refusal limit (entries_in ids.now corners.now) }
 {
@@ -92,7 +74,8 @@ pub fn refusal(ids: &[u64], corners: &[f32], limit: usize) -> u64
     }
     let entries = worst(ids, corners);
     if repeats(ids) {
-        return refusal::lowest(entries, BAD_LIST);
+        refusal::lowest(entries, BAD_LIST)
+    } else {
+        entries
     }
-    entries
 }

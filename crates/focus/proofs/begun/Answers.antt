@@ -1,7 +1,6 @@
 -- the array has four numbers for each of 64 events
 use Rattle.focus.proofs.Counted.{too_many, begun}
 use mathlib.Core.Path.{◌≡◌, sym}
-use Prim.Native.Nat.{◌*◌, ◌≤◌}
 use native.Mathlib.Omega.{arith}
 use lib.ListN.{length}
 use lib.Seq.{length-take-le}
@@ -10,9 +9,6 @@ use Rattle.focus.proofs.begun.Goals as goal
 
 pub returns-then-e-gt-EVENTS : goal.returns-then-e-gt-EVENTS
 returns-then-e-gt-EVENTS c = search too_many
-
-pub slice_bounds-words-end : goal.slice_bounds-words-end
-slice_bounds-words-end c = let l : length c.args.e.words ≡ 256 = search (length_unmapped, c.well_formed.1) in omega (arith, c.if-e-gt-EVENTS.false, l)
 
 pub slice_bounds-begin_pass-end-3 : goal.slice_bounds-begin_pass-end-3
 slice_bounds-begin_pass-end-3 c = sym (length-take-le _ _ (let l : length c.args.e.words ≡ 256 = search (length_unmapped, c.well_formed.1) in omega (arith, c.if-e-gt-EVENTS.false, l)))

@@ -1,6 +1,5 @@
 -- the array has an id for each of 256 entries
 use mathlib.Core.Path.{◌≡◌, sym}
-use Prim.Native.Nat.{◌≤◌}
 use native.Mathlib.Omega.{arith}
 use lib.ListN.{length}
 use lib.Seq.{length-take-le}
@@ -12,9 +11,6 @@ use Rattle.focus.proofs.ended.Goals as goal
 
 pub returns-then-u-gt-USED : goal.returns-then-u-gt-USED
 returns-then-u-gt-USED c = search too_many_used
-
-pub slice_bounds-used-end : goal.slice_bounds-used-end
-slice_bounds-used-end c = let l : length c.args.u.ids ≡ 256 = search (length_unmapped, c.well_formed.1) in omega (arith, c.if-u-gt-USED.false, l)
 
 pub slice_bounds-end_pass-end-3 : goal.slice_bounds-end_pass-end-3
 slice_bounds-end_pass-end-3 c = sym (length-take-le _ _ (let l : length c.args.u.ids ≡ 256 = search (length_unmapped, c.well_formed.1) in omega (arith, c.if-u-gt-USED.false, l)))

@@ -1,12 +1,7 @@
 -- `focus_cache::contains` meets its contract. Assumes nothing.
-use Rattle.focus_cache.proofs.Calls.{held_part, contains_at, contains_not}
+use mathlib.Core.Path.{◌∙◌}
+use Rattle.focus_cache.proofs.Calls.{contains_part}
 use Rattle.focus_cache.proofs.contains.Goals as goal
 
-pub slice_bounds-find_from-end : goal.slice_bounds-find_from-end
-slice_bounds-find_from-end c = search held_part
-
-pub returns-in-At : goal.returns-in-At
-returns-in-At c = search contains_at
-
-pub returns-in-Nothing : goal.returns-in-Nothing
-returns-in-Nothing c = search contains_not
+pub returns : goal.returns
+returns c = c.contains.ensures.value ∙ contains_part _ _ _ _ c.held-n.ensures _

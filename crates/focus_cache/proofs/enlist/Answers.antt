@@ -12,15 +12,15 @@ slice_bounds-find_after-end-2 c = search held_part
 
 pub overflow_add-result : goal.overflow_add-result
 overflow_add-result c =
-    omega (arith, slot_fits _ _ _ _ _ _ c.held-n.ensures _ c.in-At.ensures _ refl)
+    omega (arith, slot_fits _ _ _ _ _ _ c.held-n.ensures _ c.in-Some.ensures _ refl)
 
-pub returns-then-n-room : goal.returns-then-n-room
-returns-then-n-room c =
-    (new_answer _ _ _ _ _ _ c.held-n.ensures _ c.in-Nothing.ensures refl _ c.room.ensures c.if-n-room.true, new_cache _ _ _ _ _ _ c.held-n.ensures _ c.in-Nothing.ensures refl _ c.room.ensures _ _ c.if-n-room.true c.everything.ensures c.put.ensures)
+pub returns-in-None : goal.returns-in-None
+returns-in-None c =
+    (new_answer _ _ _ _ _ _ c.held-n.ensures _ c.in-None.ensures refl _ c.room.ensures c.if-n-room.true, new_cache _ _ _ _ _ _ c.held-n.ensures _ c.in-None.ensures refl _ c.room.ensures _ _ c.if-n-room.true c.everything.ensures c.put.ensures)
 
-pub returns-in-At : goal.returns-in-At
-returns-in-At c = (search old_answer, search old_cache)
+pub returns-in-Some : goal.returns-in-Some
+returns-in-Some c = (search old_answer, search old_cache)
 
-pub returns-else-n-room : goal.returns-else-n-room
-returns-else-n-room c =
-    (full_answer _ _ _ _ _ _ c.held-n.ensures _ c.in-Nothing.ensures refl _ c.room.ensures c.if-n-room.false, refl)
+pub returns-in-None-2 : goal.returns-in-None-2
+returns-in-None-2 c =
+    (full_answer _ _ _ _ _ _ c.held-n.ensures _ c.in-None.ensures refl _ c.room.ensures c.if-n-room.false, refl)

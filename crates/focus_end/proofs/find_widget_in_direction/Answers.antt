@@ -27,7 +27,7 @@ rect_of-requires c = omega (arith, fresh_part _ _ _ _ _ c.retain-n.ensures.0 _ c
 
 pub returns-in_default-rect_of : goal.returns-in_default-rect_of
 returns-in_default-rect_of c =
-    uncached _ _ _ _ _ c.retain-n.ensures.0 _ c.retain-n.ensures.1 _ _ c.in-Held.ensures _ _ refl _ c.rect_of.ensures c.in_default-rect_of.is
+    uncached _ _ _ _ _ c.retain-n.ensures.0 _ c.retain-n.ensures.1 _ _ c.in-Some.ensures _ refl _ c.rect_of.ensures c.in_default-rect_of.is
 
 pub slice_bounds-find-end : goal.slice_bounds-find-end
 slice_bounds-find-end c = (fresh_fits _ _ _ _ _ c.retain-n.ensures.0 _ c.retain-n.ensures.1).0
@@ -46,4 +46,4 @@ slice_bounds-find-end-4 c = (fresh_part _ _ _ _ _ c.retain-n.ensures.0 _ c.retai
 
 pub returns : goal.returns
 returns c =
-    finds _ _ _ _ _ c.retain-n.ensures.0 _ c.retain-n.ensures.1 _ _ c.in-Held.ensures _ _ refl _ c.in-At.ensures _ _ refl c.find.ensures
+    finds _ _ _ _ _ c.retain-n.ensures.0 _ c.retain-n.ensures.1 _ _ c.in-Some.ensures _ refl _ c.in-Some-rect_of.ensures _ _ refl c.find.ensures

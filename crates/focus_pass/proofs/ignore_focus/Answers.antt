@@ -7,4 +7,4 @@ pub returns-then-id-eq0 : goal.returns-then-id-eq0
 returns-then-id-eq0 c = (search ignore_zero, refl)
 
 pub returns : goal.returns
-returns c = (search ignored, c.remove-kept.ensures.1)
+returns c = (search ignored, c.remove.ensures.1)

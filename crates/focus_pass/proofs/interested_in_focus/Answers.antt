@@ -8,8 +8,8 @@ returns-then-id-eq0 c = (search interest_zero, refl)
 
 pub returns-then-e-eq-NONE : goal.returns-then-e-eq-NONE
 returns-then-e-eq-NONE c =
-    (interest_taken _ _ _ _ _ _ c.if-id-eq0.false _ c.enlist-e.ensures.0 c.if-e-eq-NONE.true _ c.interested.ensures, rw c.if-e-eq-NONE.true at c.enlist-e.ensures.1)
+    (interest_taken _ _ _ _ _ _ c.if-id-eq0.false _ c.enlist-e.ensures.0 c.if-e-eq-NONE.true _ c.interested.ensures, c.enlist-e.ensures.1)
 
-pub returns : goal.returns
-returns c =
+pub returns-else-e-eq-NONE : goal.returns-else-e-eq-NONE
+returns-else-e-eq-NONE c =
     (interest_refused _ _ _ _ _ _ c.if-id-eq0.false _ c.enlist-e.ensures.0 c.if-e-eq-NONE.false, c.enlist-e.ensures.1)

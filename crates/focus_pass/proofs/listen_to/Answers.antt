@@ -1,17 +1,11 @@
 use mathlib.Core.Path.{◌∙◌}
-use Prim.Native.Nat.{◌-◌}
-use native.Mathlib.Nat.{sub-zero}
-use native.Mathlib.Omega.{arith}
 use Rattle.focus_pass.proofs.Events.{listened_more, listened_all}
 use Rattle.focus_pass.proofs.listen_to.Goals as goal
 
-pub loop-i-init : goal.loop-i-init
-loop-i-init c = (omega arith, rw sub-zero)
-
-pub loop-i-preserved : goal.loop-i-preserved
-loop-i-preserved c =
-    (omega arith, listened_more c.args.words.now c.args.filter c.loop-i.so_far c.loop-i.i c.args.n (omega arith) _ c.event.ensures _ c.listen-so_far.ensures ∙ c.loop-i.invariant.1)
+pub loop-row-preserved : goal.loop-row-preserved
+loop-row-preserved c =
+    let (size, (cut, row, some)) = c.in-Some.ensures.steps in
+    (size ∙ c.loop-row.invariant.0, listened_more _ _ _ _ _ cut (rw c.loop-row.invariant.0 at row) some _ c.event.ensures _ c.listen-so_far.ensures ∙ c.loop-row.invariant.1)
 
 pub returns : goal.returns
-returns c =
-    listened_all c.args.words.now c.args.filter c.loop-i.so_far c.loop-i.i c.args.n (omega arith) ∙ c.loop-i.invariant.1
+returns c = listened_all _ _ _ c.in-None.ensures.steps.1.0 ∙ c.loop-row.invariant.1

@@ -1,5 +1,4 @@
 use mathlib.Core.Path.{refl, sym, ◌∙◌}
-use Prim.Native.Nat.{◌-◌}
 use native.Mathlib.Omega.{arith}
 use Rattle.used.proofs.Entries.{worst_more, worst_done}
 use Rattle.used.proofs.worst.Goals as goal

@@ -1,7 +1,5 @@
 -- `used::worst` meets its contract. The invariant: the lowest refusal from here on is the lowest of all. Assumes nothing.
 use mathlib.Core.Path.{◌≡◌}
-use Prim.Native.Nat.{◌-◌}
-use lib.ListN.{length}
 use Rattle.refusal.specs.Refusal.{none}
 use Rattle.used.specs.Used.{entries_in, worst_of}
 use Rattle.used.proofs.Entries.{worst_from}
@@ -9,6 +7,3 @@ use Rattle.used.proofs.worst.Given as goal
 
 abbrev pub invariant-loop-i : goal.invariant-loop-i
 invariant-loop-i l = worst_from l.ids l.corners l.refusal l.i ≡ worst_of none (entries_in l.ids l.corners)
-
-abbrev pub decreases-loop-i : goal.decreases-loop-i
-decreases-loop-i l = length l.ids - l.i
