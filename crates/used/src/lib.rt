@@ -37,7 +37,7 @@ fn rect_refusal(corners: &[f32], i: usize) -> u64
 {
     if i < corners.len() / 4 {
         let at = 4 * i;
-        grid::rect(Rect {
+        refusal::number(grid::rect(Rect {
             min: Pos2 {
                 x: corners[at],
                 y: corners[at + 1],
@@ -46,7 +46,7 @@ fn rect_refusal(corners: &[f32], i: usize) -> u64
                 x: corners[at + 2],
                 y: corners[at + 3],
             },
-        })
+        }))
     } else {
         OFF_GRID
     }
