@@ -1,4 +1,5 @@
 -- Laws of the definitions, in the form in which the functions ask for them.
+pub mod Chunks
 pub mod Rows
 pub mod Table
 pub mod Marks

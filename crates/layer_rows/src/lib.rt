@@ -41,17 +41,16 @@ fn read(rows: &[u64], k: usize) -> Row
     requires { 8 * k + 8 ≤ length rows.now }
     ensures { result ≡ row_in rows.now k }
 {
+    let (rows, _) = rows.as_chunks::<8>();
+    let [order, id, shown, last, raised, parent, area, key] = rows[k];
     Row {
-        layer: LayerId {
-            order: rows[8 * k],
-            id: rows[8 * k + 1],
-        },
-        shown: rows[8 * k + 2],
-        last: rows[8 * k + 3],
-        raised: rows[8 * k + 4],
-        parent: rows[8 * k + 5],
-        area: rows[8 * k + 6],
-        key: rows[8 * k + 7],
+        layer: LayerId { order, id },
+        shown,
+        last,
+        raised,
+        parent,
+        area,
+        key,
     }
 }
 
