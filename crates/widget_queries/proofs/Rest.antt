@@ -9,11 +9,11 @@ use lib.ListN.{length}
 use Rattle.layers.specs.declared.LayerId.{LayerId}
 use Rattle.widget_rect.specs.declared.WidgetRect.{WidgetRect}
 use Rattle.std.specs.Prelude.{Option, None, Some}
-use Rattle.widget_rows.specs.Rows.{Rows, is_in, record_at, room_of, held_in, list_in, listed_in, list_of}
+use Rattle.widget_rows.specs.Rows.{Rows, Table, is_in, record_at, room_of, held_in, held_of, list_in, listed_in, list_of}
 
 -- the widgets of the layer's list that stand at row k or after it
-unfoldable pub rest_of : Rows → LayerId → ℕ → ℕ → List WidgetRect
-rest_of t layer count k = list_in t layer (held_in count t - k) k
+unfoldable pub rest_of : Table → LayerId → ℕ → List WidgetRect
+rest_of t layer k = list_in t.rows layer (held_of t - k) k
 
 module _ (t : Rows) (layer : LayerId) where
   none_listed : (m k : ℕ) → listed_in t layer m k ≡ None → list_in t layer m k ≡ []
@@ -39,22 +39,22 @@ module _ (t : Rows) (layer : LayerId) where
           (omega arith, omega arith, rw (q, r, p))
       go false e more = let (l, h, p) = more e in (omega arith, omega arith, p)
 
-  module _ (count : ℕ) where
-    pub all_left : (cells : List ℕ) → rest_of t layer count 0 ≡ list_of (record { count = count; cells = cells; rows = t }) layer
-    unfolding rest_of list_of
-    all_left cells = rw (sub-zero (held_in count t))
+module _ (t : Table) (layer : LayerId) where
+  pub all_left : rest_of t layer 0 ≡ list_of t layer
+  unfolding rest_of list_of
+  all_left = rw (sub-zero (held_of t))
 
-    below_length : {k : ℕ} → k < held_in count t → k < length t.ids
-    unfolding held_in room_of
-    below_length l = omega arith
+  below_length : {k : ℕ} → k < held_of t → k < length t.rows.ids
+  unfolding held_in room_of
+  below_length l = omega arith
 
-    module _ (k : ℕ) (f : Option (ℕ × WidgetRect)) (e : f ≡ listed_in t layer (held_in count t - k) k) where
-      pub none_left : f ≡ None → rest_of t layer count k ≡ []
-      unfolding rest_of
-      none_left h = none_listed (held_in count t - k) k (sym e ∙ h)
+  module _ (k : ℕ) (f : Option (ℕ × WidgetRect)) (e : f ≡ listed_in t.rows layer (held_of t - k) k) where
+    pub none_left : f ≡ None → rest_of t layer k ≡ []
+    unfolding rest_of
+    none_left h = none_listed t.rows layer (held_of t - k) k (sym e ∙ h)
 
-      pub one_left : (next : ℕ) (w : WidgetRect) → f ≡ Some (next, w) → (k < next) × (k < length t.ids) × (rest_of t layer count k ≡ w ∷ rest_of t layer count next)
-      unfolding rest_of
-      one_left next w h =
-          let (l, m, p) = one_listed (held_in count t) (held_in count t - k) k next w refl (sym e ∙ h) in
-          (l, below_length m, p)
+    pub one_left : (next : ℕ) (w : WidgetRect) → f ≡ Some (next, w) → (k < next) × (k < length t.rows.ids) × (rest_of t layer k ≡ w ∷ rest_of t layer next)
+    unfolding rest_of
+    one_left next w h =
+        let (l, m, p) = one_listed t.rows layer (held_of t) (held_of t - k) k next w refl (sym e ∙ h) in
+        (l, below_length m, p)

@@ -1,15 +1,16 @@
 // The queries over lent tables: of an id, with the refusal of id 0, and the focusable widgets of a layer.
 #![tactic(auto)]
 
-ghost use Rattle.std.specs.Prelude.{◌≡◌, [], cond, ◌+◌, ◌<◌, length, set};
+ghost use Rattle.std.specs.Prelude.{◌≡◌, cond, ◌+◌, ◌<◌, length, set};
 ghost use Rattle.tables.specs.Tables.{written_on};
 ghost use Rattle.widget_rect.specs.WidgetRect.{is_focusable};
-ghost use Rattle.widget_rows.specs.Rows.{table_in, list_of};
+ghost use Rattle.widget_rows.specs.Rows.{lent, list_of};
 ghost use Rattle.widget_queries.specs.Queries.{order_answer, widget_answer, contains_answer, focusable_ids};
 
 use layers::LayerId;
 use refusal::NONE;
 use widget_rect::WidgetRect;
+use widget_rows::WidgetTable;
 
 // In which layer, and at which place of its list.
 #[derive(Clone, Copy)]
@@ -33,21 +34,14 @@ pub enum ContainsAnswer {
 }
 
 #[tactic(auto, unfolding(crate::specs::Queries::order_answer))]
-pub fn order(
-    cells: &[u64],
-    ids: &[u64],
-    words: &[u64],
-    rects: &[f32],
-    count: usize,
-    id: u64,
-) -> OrderAnswer
-    ensures { result ≡ order_answer (table_in count cells.now ids.now words.now rects.now) id }
+pub fn order(table: WidgetTable, id: u64) -> OrderAnswer
+    ensures { result ≡ order_answer (lent table.entry) id }
 {
     let refusal = refusal::id_refusal(id);
     if refusal != NONE {
         return OrderAnswer::Refused(refusal);
     }
-    match widget_rows::get(cells, ids, words, rects, count, id) {
+    match table.get(id) {
         Some((index, w)) => OrderAnswer::Is(w.layer_id, index),
         None => OrderAnswer::Nothing,
     }
@@ -55,42 +49,28 @@ pub fn order(
 
 // egui's `get`.
 #[tactic(auto, unfolding(crate::specs::Queries::widget_answer))]
-pub fn widget(
-    cells: &[u64],
-    ids: &[u64],
-    words: &[u64],
-    rects: &[f32],
-    count: usize,
-    id: u64,
-) -> WidgetAnswer
-    ensures { result ≡ widget_answer (table_in count cells.now ids.now words.now rects.now) id }
+pub fn widget(table: WidgetTable, id: u64) -> WidgetAnswer
+    ensures { result ≡ widget_answer (lent table.entry) id }
 {
     let refusal = refusal::id_refusal(id);
     if refusal != NONE {
         return WidgetAnswer::Refused(refusal);
     }
-    match widget_rows::get(cells, ids, words, rects, count, id) {
+    match table.get(id) {
         Some((_, w)) => WidgetAnswer::Is(w),
         None => WidgetAnswer::Nothing,
     }
 }
 
 #[tactic(auto, unfolding(crate::specs::Queries::contains_answer))]
-pub fn contains(
-    cells: &[u64],
-    ids: &[u64],
-    words: &[u64],
-    rects: &[f32],
-    count: usize,
-    id: u64,
-) -> ContainsAnswer
-    ensures { result ≡ contains_answer (table_in count cells.now ids.now words.now rects.now) id }
+pub fn contains(table: WidgetTable, id: u64) -> ContainsAnswer
+    ensures { result ≡ contains_answer (lent table.entry) id }
 {
     let refusal = refusal::id_refusal(id);
     if refusal != NONE {
         return ContainsAnswer::Refused(refusal);
     }
-    ContainsAnswer::Is(widget_rows::get(cells, ids, words, rects, count, id).is_some())
+    ContainsAnswer::Is(table.get(id).is_some())
 }
 
 // Puts the widget's id at place n, if it is focusable; the place after it.
@@ -108,19 +88,12 @@ fn put_focusable(out: &mut [u64], n: usize, w: WidgetRect) -> usize
 
 // The ids of the focusable widgets of a layer, in the order of its list, on the first places of `out`, as far as they fit; how many they are. It refuses no
 // layer: the caller asks for that.
-pub fn focusable_widgets(
-    ids: &[u64],
-    words: &[u64],
-    rects: &[f32],
-    count: usize,
-    layer: LayerId,
-    out: &mut [u64],
-) -> usize
-    ensures { (result ≡ length (focusable_ids (list_of (table_in count [] ids.now words.now rects.now) layer))) × (out.new ≡ written_on out.old (focusable_ids (list_of (table_in count [] ids.now words.now rects.now) layer))) }
+pub fn focusable_widgets(table: WidgetTable, layer: LayerId, out: &mut [u64]) -> usize
+    ensures { (result ≡ length (focusable_ids (list_of (lent table.entry) layer))) × (out.new ≡ written_on out.old (focusable_ids (list_of (lent table.entry) layer))) }
 {
     let mut n: usize = 0;
     let mut from: usize = 0;
-    while let Some((next, w)) = widget_rows::next_in_layer(ids, words, rects, count, from, layer) {
+    while let Some((next, w)) = table.next_in_layer(from, layer) {
         n = put_focusable(out, n, w);
         from = next;
     }

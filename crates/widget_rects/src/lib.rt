@@ -2,7 +2,7 @@
 #![tactic(auto)]
 
 ghost use Rattle.std.specs.Prelude.{◌≡◌};
-ghost use Rattle.widget_rows.specs.Rows.{list_of};
+ghost use Rattle.widget_rows.specs.Rows.{lent, list_of};
 ghost use Rattle.widget_queries.specs.Queries.{order_answer, widget_answer, contains_answer};
 ghost use Rattle.widget_rects.specs.WidgetRects.{table_of, new_rects, inserted_of, cleared_rects, blank_widget, listing, list_answer, ids_answer};
 
@@ -11,6 +11,7 @@ use layers::LayerId;
 use refusal::{NONE, WIDGETS};
 use widget_queries::{ContainsAnswer, OrderAnswer, WidgetAnswer};
 use widget_rect::WidgetRect;
+use widget_rows::WidgetTable;
 
 #[derive(Clone, Copy)]
 pub struct WidgetRects {
@@ -105,43 +106,34 @@ impl WidgetRects {
         self
     }
 
+    fn table(&self) -> WidgetTable<'_>
+        ensures { lent result ≡ table_of self.now }
+    {
+        WidgetTable {
+            count: self.count,
+            cells: &self.cells,
+            ids: &self.ids,
+            words: &self.words,
+            rects: &self.rects,
+        }
+    }
+
     pub fn order(&self, id: u64) -> OrderAnswer
         ensures { result ≡ order_answer (table_of self.now) id }
     {
-        widget_queries::order(
-            &self.cells,
-            &self.ids,
-            &self.words,
-            &self.rects,
-            self.count,
-            id,
-        )
+        widget_queries::order(self.table(), id)
     }
 
     pub fn get(&self, id: u64) -> WidgetAnswer
         ensures { result ≡ widget_answer (table_of self.now) id }
     {
-        widget_queries::widget(
-            &self.cells,
-            &self.ids,
-            &self.words,
-            &self.rects,
-            self.count,
-            id,
-        )
+        widget_queries::widget(self.table(), id)
     }
 
     pub fn contains(&self, id: u64) -> ContainsAnswer
         ensures { result ≡ contains_answer (table_of self.now) id }
     {
-        widget_queries::contains(
-            &self.cells,
-            &self.ids,
-            &self.words,
-            &self.rects,
-            self.count,
-            id,
-        )
+        widget_queries::contains(self.table(), id)
     }
 
     // The widgets of a layer that is not refused.
@@ -151,14 +143,8 @@ impl WidgetRects {
         let mut widgets = [blank(); WIDGETS];
         let mut count: usize = 0;
         let mut from: usize = 0;
-        while let Some((next, w)) = widget_rows::next_in_layer(
-            &self.ids,
-            &self.words,
-            &self.rects,
-            self.count,
-            from,
-            layer,
-        ) {
+        let table = self.table();
+        while let Some((next, w)) = table.next_in_layer(from, layer) {
             widgets[count] = w;
             count += 1;
             from = next;
@@ -198,14 +184,7 @@ impl WidgetRects {
                 ids,
             };
         }
-        let count = widget_queries::focusable_widgets(
-            &self.ids,
-            &self.words,
-            &self.rects,
-            self.count,
-            layer,
-            &mut ids,
-        );
+        let count = widget_queries::focusable_widgets(self.table(), layer, &mut ids);
         Ids {
             refusal: NONE,
             count,

@@ -8,6 +8,7 @@ use Rattle.layers.specs.declared.LayerId.{LayerId}
 use Rattle.layers.specs.Layers.{is_layer}
 use Rattle.tables.specs.Tables.{nearest}
 use Rattle.widget_rect.specs.declared.WidgetRect.{WidgetRect}
+use Rattle.widget_rows.specs.declared.WidgetTable.{WidgetTable}
 
 pub record Rows : Type 0 where
   pub ids : List ℕ
@@ -25,6 +26,10 @@ rows_in ids words rects = record { ids = ids; words = words; rects = rects }
 
 abbrev pub table_in : ℕ → List ℕ → List ℕ → List ℕ → List Float → Table
 table_in count cells ids words rects = record { count = count; cells = cells; rows = rows_in ids words rects }
+
+-- what tables that are lent hold
+abbrev pub lent : WidgetTable → Table
+lent t = table_in t.count t.cells.now t.ids.now t.words.now t.rects.now
 
 -- ---- a row: the record in its half 0 is held by id, in its half 1 by the list of its layer
 abbrev pub rect_at : List Float → ℕ → Rect

@@ -9,7 +9,7 @@
 
 ghost use Rattle.std.specs.Prelude.{◌≡◌, ◌+◌, ◌-◌, ◌*◌, ◌/◌, min, ◌≤◌, ◌<◌, length, take};
 ghost use Rattle.tables.specs.Tables.{closed};
-ghost use Rattle.widget_rows.specs.Rows.{rows_in, table_in, home_of, place_of, room_of, held_in, rect_at, layer_at, is_in, index_at, record_at, record_or, one_more, one_less, next_index, lowered_at, renumbered, entry_of, listed_in};
+ghost use Rattle.widget_rows.specs.Rows.{rows_in, lent, home_of, room_of, held_of, found_in, rect_at, layer_at, is_in, index_at, record_at, record_or, next_index, lowered_at, renumbered, entry_of, listed_in};
 
 use emath::{Pos2, Rect};
 use layers::LayerId;
@@ -132,75 +132,84 @@ pub fn home(cells: &[u64], id: u64) -> usize
     ((cells.len() as u64).saturating_sub(1) & id) as usize
 }
 
-// The row of an id among the first n, or among all where they are fewer. Where the cell of its home is 0, it has none; else it is the row before the cell's,
-// or a little below, since rows that move go down.
-#[tactic(auto, using(crate::proofs::Places::by_cell, crate::proofs::Places::as_far), unfolding(crate::specs::Rows::place_of, crate::specs::Rows::place_by))]
-pub fn place(cells: &[u64], ids: &[u64], n: usize, id: u64) -> Option<usize>
-    ensures { result ≡ place_of cells.now (take n ids.now) id }
-{
-    let cell = cells.get(home(cells, id)).copied().unwrap_or(1);
-    if cell == 0 {
-        return None;
-    }
-    tables::find(&ids[..n.min(ids.len())], cell as usize, id)
-}
-
-// How many whole rows the tables have.
-#[tactic(auto, unfolding(crate::specs::Rows::room_of))]
-pub fn room(ids: &[u64], words: &[u64], rects: &[f32]) -> usize
-    ensures { result ≡ room_of (rows_in ids.now words.now rects.now) }
-{
-    ids.len().min(words.len() / 10).min(rects.len() / 16)
-}
-
 // ---- what is held
 
-// The record held by id at row k, or d past the room, so that no caller has to be asked for a row that is there.
-#[tactic(auto, unfolding(crate::specs::Rows::record_or, crate::specs::Rows::room_of))]
-pub fn record_or(ids: &[u64], words: &[u64], rects: &[f32], k: usize, d: WidgetRect) -> WidgetRect
-    ensures { result ≡ record_or (rows_in ids.now words.now rects.now) k d }
-{
-    if k < room(ids, words, rects) {
-        read_half(ids, words, rects, k, 0)
-    } else {
-        d
+// The tables, lent to be read, and how many rows are held.
+#[derive(Clone, Copy)]
+pub struct WidgetTable<'a> {
+    pub count: usize,
+    pub cells: &'a [u64],
+    pub ids: &'a [u64],
+    pub words: &'a [u64],
+    pub rects: &'a [f32],
+}
+
+impl WidgetTable<'_> {
+    // How many whole rows the tables have.
+    #[tactic(auto, unfolding(crate::specs::Rows::room_of))]
+    pub fn room(self) -> usize
+        ensures { result ≡ room_of (lent self.entry).rows }
+    {
+        self.ids
+            .len()
+            .min(self.words.len() / 10)
+            .min(self.rects.len() / 16)
     }
-}
 
-// by_id.get: the index in the list of its layer, and the record.
-#[tactic(auto, unfolding(crate::specs::Rows::entry_of, crate::specs::Rows::found_in, crate::specs::Rows::held_in))]
-pub fn get(
-    cells: &[u64],
-    ids: &[u64],
-    words: &[u64],
-    rects: &[f32],
-    count: usize,
-    id: u64,
-) -> Option<(u64, WidgetRect)>
-    ensures { result ≡ entry_of (table_in count cells.now ids.now words.now rects.now) id }
-{
-    let n = count.min(room(ids, words, rects));
-    let k = place(cells, ids, n, id)?;
-    Some((index(words, k), read_half(ids, words, rects, k, 0)))
-}
+    // How many rows are held: never more than there is room for.
+    #[tactic(auto, unfolding(crate::specs::Rows::held_in))]
+    pub fn held(self) -> usize
+        ensures { result ≡ held_of (lent self.entry) }
+    {
+        self.count.min(self.room())
+    }
 
-// The first widget of the layer's list that stands at a row or after it, with the row after its own.
-#[tactic(auto, using(crate::proofs::Lists::listed_hit, crate::proofs::Lists::listed_miss, crate::proofs::Lists::listed_end), unfolding(crate::specs::Rows::held_in, crate::specs::Rows::room_of))]
-pub fn next_in_layer(
-    ids: &[u64],
-    words: &[u64],
-    rects: &[f32],
-    count: usize,
-    from: usize,
-    layer: LayerId,
-) -> Option<(usize, WidgetRect)>
-    ensures { result ≡ listed_in (rows_in ids.now words.now rects.now) layer (held_in count (rows_in ids.now words.now rects.now) - from) from }
-{
-    let n = count.min(room(ids, words, rects));
-    for k in from..n {
-        if is_in(words, k, layer) {
-            return Some((k + 1, read_half(ids, words, rects, k, 1)));
+    // The row of an id. Where the cell of its home is 0, it has none; else it is the row before the cell's, or a little below, since rows that move go down.
+    #[tactic(auto, using(crate::proofs::Places::by_cell), unfolding(crate::specs::Rows::found_in, crate::specs::Rows::place_of, crate::specs::Rows::place_by, crate::specs::Rows::held_in, crate::specs::Rows::room_of))]
+    pub fn find(self, id: u64) -> Option<usize>
+        ensures { result ≡ found_in (lent self.entry) id }
+    {
+        let cell = self.cells.get(home(self.cells, id)).copied().unwrap_or(1);
+        if cell == 0 {
+            return None;
+        }
+        tables::find(&self.ids[..self.held()], cell as usize, id)
+    }
+
+    // The record held by id at row k, or d past the room, so that no caller has to be asked for a row that is there.
+    #[tactic(auto, unfolding(crate::specs::Rows::record_or, crate::specs::Rows::room_of))]
+    pub fn record_or(self, k: usize, d: WidgetRect) -> WidgetRect
+        ensures { result ≡ record_or (lent self.entry).rows k d }
+    {
+        if k < self.room() {
+            read_half(self.ids, self.words, self.rects, k, 0)
+        } else {
+            d
         }
     }
-    None
+
+    // by_id.get: the index in the list of its layer, and the record.
+    #[tactic(auto, unfolding(crate::specs::Rows::entry_of))]
+    pub fn get(self, id: u64) -> Option<(u64, WidgetRect)>
+        ensures { result ≡ entry_of (lent self.entry) id }
+    {
+        let k = self.find(id)?;
+        Some((
+            index(self.words, k),
+            read_half(self.ids, self.words, self.rects, k, 0),
+        ))
+    }
+
+    // The first widget of the layer's list that stands at a row or after it, with the row after its own.
+    #[tactic(auto, using(crate::proofs::Lists::listed_hit, crate::proofs::Lists::listed_miss, crate::proofs::Lists::listed_end), unfolding(crate::specs::Rows::held_in, crate::specs::Rows::room_of))]
+    pub fn next_in_layer(self, from: usize, layer: LayerId) -> Option<(usize, WidgetRect)>
+        ensures { result ≡ listed_in (lent self.entry).rows layer (held_of (lent self.entry) - from) from }
+    {
+        for k in from..self.held() {
+            if is_in(self.words, k, layer) {
+                return Some((k + 1, read_half(self.ids, self.words, self.rects, k, 1)));
+            }
+        }
+        None
+    }
 }

@@ -5,11 +5,12 @@
 ghost use Rattle.std.specs.Prelude.{◌≡◌, ◌+◌, ◌-◌, ◌*◌, ◌≤◌, ◌<◌, length};
 ghost use Rattle.tables.specs.Tables.{put_at};
 ghost use Rattle.widget_rows.specs.Rows.{rows_in, table_in};
-ghost use Rattle.widget_table.specs.Table.{full_refusal, edges_of, look_of, shared_of, push_of, remove_of, joined_at, update_of, row_after, refusal_of, insert_of, cleared_cells};
+ghost use Rattle.widget_table.specs.Table.{full_refusal, edges_of, look_of, shared_of, push_of, remove_of, update_of, row_after, refusal_of, insert_of, cleared_cells};
 
 use layers::LayerId;
 use refusal::{FULL, NONE};
 use widget_rect::WidgetRect;
+use widget_rows::WidgetTable;
 
 #[derive(Clone, Copy)]
 #[repr(C)]
@@ -86,21 +87,21 @@ fn full_refusal(found: Option<usize>, n: usize, room: usize) -> u64
 
 // ---- the calls
 
-// A known widget, whose record is joined; the row where it then stands.
-#[tactic(auto, using(widget_rows::proofs::Places::record_held), unfolding(crate::specs::Table::row_after, crate::specs::Table::joined_at, crate::specs::Table::put_half))]
+// A known widget, whose record joined with the new one is w; the row where it then stands.
+#[tactic(auto, unfolding(crate::specs::Table::row_after, crate::specs::Table::put_half))]
 fn update(
     ids: &mut [u64],
     words: &mut [u64],
     rects: &mut [f32],
     n: usize,
     k: usize,
+    w: WidgetRect,
     new: WidgetRect,
     move_to_top: bool,
 ) -> usize
     requires { (k < n) × (n ≤ length ids.old) × (10 * n ≤ length words.old) × (16 * n ≤ length rects.old) }
-    ensures { (result ≡ row_after n k (joined_at (rows_in ids.old words.old rects.old) k new) new move_to_top) × (rows_in ids.new words.new rects.new ≡ update_of (rows_in ids.old words.old rects.old) n k (joined_at (rows_in ids.old words.old rects.old) k new) new move_to_top) }
+    ensures { (result ≡ row_after n k w new move_to_top) × (rows_in ids.new words.new rects.new ≡ update_of (rows_in ids.old words.old rects.old) n k w new move_to_top) }
 {
-    let w = widget_rows::record_or(ids, words, rects, k, new).joined(new);
     let in_its_list = w.layer_id.is(new.layer_id);
     if in_its_list && move_to_top {
         remove(ids, words, rects, n, k, w.layer_id);
@@ -114,7 +115,7 @@ fn update(
     k
 }
 
-#[tactic(auto, unfolding(crate::specs::Table::refusal_of, crate::specs::Table::insert_of, widget_rows::specs::Rows::found_in, widget_rows::specs::Rows::held_in))]
+#[tactic(auto, unfolding(crate::specs::Table::refusal_of, crate::specs::Table::insert_of, crate::specs::Table::joined_at))]
 pub fn insert(
     cells: &mut [u64],
     ids: &mut [u64],
@@ -127,9 +128,16 @@ pub fn insert(
 ) -> Inserted
     ensures { (result.refusal ≡ refusal_of (table_in count cells.old ids.old words.old rects.old) layer new) × (table_in result.count cells.new ids.new words.new rects.new ≡ insert_of (table_in count cells.old ids.old words.old rects.old) layer new move_to_top) }
 {
-    let room = widget_rows::room(ids, words, rects);
-    let n = count.min(room);
-    let found = widget_rows::place(cells, ids, n, new.id);
+    let table = WidgetTable {
+        count,
+        cells,
+        ids,
+        words,
+        rects,
+    };
+    let room = table.room();
+    let n = table.held();
+    let found = table.find(new.id);
     let refusal = refusal::lowest(new.insert_refusal(layer), full_refusal(found, n, room));
     if refusal != NONE {
         return Inserted { refusal, count };
@@ -137,7 +145,8 @@ pub fn insert(
     let home = widget_rows::home(cells, new.id);
     match found {
         Some(k) => {
-            let row = update(ids, words, rects, n, k, new, move_to_top);
+            let w = table.record_or(k, new).joined(new);
+            let row = update(ids, words, rects, n, k, w, new, move_to_top);
             tables::put_one(cells, home, row as u64 + 1);
             Inserted {
                 refusal: NONE,
