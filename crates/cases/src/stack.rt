@@ -1,12 +1,13 @@
 // The stack at its limit of 64 layers, by value: what each call answers, and which layer is then on top.
+use crate::outcome::{last, say_list};
 use area::AreaState;
-use areas::{Areas, Changed, Layers};
+use areas::{Areas, Changed};
 use layers::LayerId;
-use refusal::LAYERS;
+use refusal::NONE;
 use std::io;
 
 fn layer(id: u64) -> LayerId {
-    LayerId { order: 1, id: id }
+    LayerId { order: 1, id }
 }
 
 fn show(areas: Areas, id: u64) -> Changed {
@@ -16,54 +17,26 @@ fn show(areas: Areas, id: u64) -> Changed {
 // Shows the layers from 1 to n; what the last call answers.
 fn filled(n: u64) -> Changed {
     let mut now = Changed {
-        refusal: 0,
+        refusal: NONE,
         areas: Areas::new(),
     };
     for id in 0..n {
-        let areas = now.areas;
-        now = show(areas, id + 1);
+        now = show(now.areas, id + 1);
     }
     now
 }
 
-// The last layer of a list, or 0.
-fn last(list: Layers) -> u64 {
-    let layers = list.layers;
-    if 0 < list.count {
-        if list.count <= LAYERS {
-            return layers[list.count - 1].id;
-        }
-    }
-    0
-}
-
 // What a call answers, and how many layers the stack then has.
-fn tell(rt: &impl Print, text: &str, c: Changed) -> io::Result<()> {
-    print!(rt; "{text}: ")?;
-    if c.refusal == 0 {
-        print!(rt; "taken")?;
-    } else {
-        let refusal = c.refusal;
-        print!(rt; "no {refusal}")?;
-    }
-    let areas = c.areas;
-    let list = areas.order();
-    let count = list.count;
-    let last = last(list);
-    println!(rt; ", {count} layers, the last is {last}")
+fn tell(rt: &impl Print, text: &str, changed: Changed) -> io::Result<()> {
+    let list = changed.areas.order();
+    let last = last(&list.layers, list.count).map_or(0, |layer| layer.id);
+    say_list(rt, text, changed.refusal, list.count, "layers", last)
 }
 
 // The same after the end of the pass.
-fn tell_ended(rt: &impl Print, text: &str, c: Changed) -> io::Result<()> {
-    let areas = c.areas;
-    tell(
-        rt,
-        text,
-        Changed {
-            refusal: c.refusal,
-            areas: areas.end_pass(),
-        },
-    )
+fn tell_ended(rt: &impl Print, text: &str, changed: Changed) -> io::Result<()> {
+    let areas = changed.areas.end_pass();
+    tell(rt, text, Changed { areas, ..changed })
 }
 
 pub fn stack(rt: &impl Print) -> io::Result<()> {
@@ -96,6 +69,5 @@ pub fn stack(rt: &impl Print) -> io::Result<()> {
         "with 63, a new child of itself",
         fewer.set_sublayer(layer(64), layer(64)),
     )?;
-    tell(rt, "after reset, a new one", show(areas.reset(), 65))?;
-    Ok(())
+    tell(rt, "after reset, a new one", show(areas.reset(), 65))
 }

@@ -1,115 +1,146 @@
-// The plain words of a line: numbers, flags and floats, read by their kinds into numbers.
-use text::{Numeral, Place};
+// The words of a line, read one after the other by their kinds. None is a word that does not fit its kind.
+use crate::library;
+use area::{Align2, AreaState};
+use emath::{Pos2, Rect};
+use input::{Event, EventFilter};
+use layers::LayerId;
+use widget_rect::WidgetRect;
 
-// The words read, as numbers, how many they are, and the place after them; whether all of them fit their kinds.
 #[derive(Clone, Copy)]
-pub struct Words {
-    pub v: [u64; 20],
-    pub count: usize,
-    pub next: usize,
-    pub fit: bool,
+pub struct Words<'a> {
+    line: &'a [u8],
+    at: usize,
 }
 
-// The largest number of a kind: f is a flag, x a float's bit pattern, and n any number.
-fn largest(kind: u8) -> u64 {
-    match kind {
-        b'f' => 1,
-        b'x' => 4294967295,
-        _ => 18446744073709551615,
+impl<'a> Words<'a> {
+    pub fn of(line: &'a [u8]) -> Words<'a> {
+        Words { line, at: 0 }
     }
-}
 
-fn unfit(before: Words) -> Words {
-    let mut w = before;
-    w.fit = false;
-    w
-}
-
-// One word more, which ends at a place.
-fn with(before: Words, word: u64, next: usize) -> Words {
-    let mut w = before;
-    let i = w.count;
-    if i < 20 {
-        w.v[i] = word;
-        w.count = i + 1;
-        w.next = next;
-        return w;
+    // The line's first word.
+    pub fn name(&mut self) -> &'a [u8] {
+        self.at = text::find(self.line, 0, b' ');
+        &self.line[..self.at]
     }
-    unfit(before)
-}
 
-// A space and a word of a kind.
-fn read_word(line: &[u8], before: Words, kind: u8) -> Words {
-    let Numeral::Value(word, next) = text::argument(line, before.next) else {
-        return unfit(before);
-    };
-    if largest(kind) < word {
-        return unfit(before);
-    }
-    with(before, word, next)
-}
-
-// The words that follow a place, a kind each. The kinds stand after a colon.
-pub fn read(line: &[u8], at: usize, kinds: &[u8]) -> Words {
-    let mut w = Words {
-        v: [0; 20],
-        count: 0,
-        next: at,
-        fit: true,
-    };
-    let mut i: usize = 1;
-    while i < kinds.len() {
-        w = read_word(line, w, kinds[i]);
-        i += 1;
-    }
-    w
-}
-
-// The place after the line's first word, where it is w.
-fn first(line: &[u8], w: &[u8]) -> Place {
-    let Place::At(i) = text::word(line, 0, w) else {
-        return Place::Bad;
-    };
-    if i == line.len() {
-        return Place::At(i);
-    }
-    if text::byte(line, i) == b' ' {
-        return Place::At(i);
-    }
-    Place::Bad
-}
-
-// A call by its number in a table, and its plain words.
-#[derive(Clone, Copy)]
-pub struct Called {
-    pub number: usize,
-    pub words: Words,
-}
-
-// Looks a line's first word up in a table of `NAME:KINDS`, set apart by single spaces.
-pub fn look_up(table: &[u8], line: &[u8]) -> Called {
-    let mut number: usize = 0;
-    let mut i: usize = 0;
-    while i < table.len() {
-        let colon = text::find(table, i, b':');
-        let end = text::find(table, colon, b' ');
-        if let Place::At(next) = first(line, &table[i..colon]) {
-            return Called {
-                number: number,
-                words: read(line, next, &table[colon..end]),
-            };
+    // The end of the line.
+    pub fn end(&self) -> Option<()> {
+        if self.at == self.line.len() {
+            Some(())
+        } else {
+            None
         }
-        number += 1;
-        i = end + 1;
     }
-    let none = Words {
-        v: [0; 20],
-        count: 0,
-        next: 0,
-        fit: false,
-    };
-    Called {
-        number: number,
-        words: none,
+
+    // A space and a word.
+    fn word(&mut self) -> Option<&'a [u8]> {
+        let from = text::skip(self.line, self.at, b' ')?;
+        self.at = text::find(self.line, from, b' ');
+        self.line.get(from..self.at)
+    }
+
+    pub fn number(&mut self) -> Option<u64> {
+        let (number, next) = text::argument(self.line, self.at)?;
+        self.at = next;
+        Some(number)
+    }
+
+    pub fn flag(&mut self) -> Option<bool> {
+        match self.number()? {
+            0 => Some(false),
+            1 => Some(true),
+            _ => None,
+        }
+    }
+
+    // A float is its bit pattern.
+    fn float(&mut self) -> Option<f32> {
+        let pattern = u32::try_from(self.number()?).ok()?;
+        Some(float_bits::from_bits(u64::from(pattern)))
+    }
+
+    pub fn pos(&mut self) -> Option<Pos2> {
+        Some(Pos2 {
+            x: self.float()?,
+            y: self.float()?,
+        })
+    }
+
+    pub fn rect(&mut self) -> Option<Rect> {
+        Some(Rect {
+            min: self.pos()?,
+            max: self.pos()?,
+        })
+    }
+
+    // A flag and two floats, which count only where it is set.
+    pub fn held_pos(&mut self) -> Option<Option<Pos2>> {
+        let held = self.flag()?;
+        let pos = self.pos()?;
+        Some(if held { Some(pos) } else { None })
+    }
+
+    pub fn layer(&mut self) -> Option<LayerId> {
+        Some(LayerId {
+            order: self.number()?,
+            id: self.number()?,
+        })
+    }
+
+    // The nine words of a STATE.
+    pub fn state(&mut self) -> Option<AreaState> {
+        Some(AreaState {
+            pivot_pos: library::pivot_pos(self.held_pos()?),
+            pivot: Align2 {
+                x: self.number()?,
+                y: self.number()?,
+            },
+            size: library::size(self.held_pos()?),
+            interactable: self.flag()?,
+        })
+    }
+
+    // The record of `insert`.
+    pub fn widget(&mut self) -> Option<WidgetRect> {
+        Some(WidgetRect {
+            id: self.number()?,
+            parent_id: self.number()?,
+            layer_id: self.layer()?,
+            rect: self.rect()?,
+            interact_rect: self.rect()?,
+            sense: self.number()?,
+            enabled: self.flag()?,
+            visible: self.flag()?,
+        })
+    }
+
+    pub fn filter(&mut self) -> Option<EventFilter> {
+        Some(EventFilter {
+            tab: self.flag()?,
+            horizontal_arrows: self.flag()?,
+            vertical_arrows: self.flag()?,
+            escape: self.flag()?,
+        })
+    }
+
+    // A letter for the kind of event, and its words.
+    pub fn event(&mut self) -> Option<Event> {
+        match self.word()? {
+            b"k" => self.key(),
+            b"a" => Some(Event::AccessKitFocus(self.number()?)),
+            b"p" => Some(Event::Pointer(self.float()?, self.float()?)),
+            b"z" => Some(Event::Zoom(self.float()?)),
+            b"o" => Some(Event::Other),
+            _ => None,
+        }
+    }
+
+    fn key(&mut self) -> Option<Event> {
+        Some(Event::Key {
+            key: self.number()?,
+            pressed: self.flag()?,
+            repeat: self.flag()?,
+            modifiers: self.number()?,
+        })
     }
 }

@@ -11,7 +11,7 @@ use lib.Seq.{drop-append_seam}
 use borrow.Author.Tests.{le-leb, lt-ltb, le-ltb, ltb-true, ltb-false, ne_eqb}
 use Rattle.text.specs.Put.{decimal_in, decimal_of}
 use Rattle.text.specs.Read.{digits_of, worth, well_written, value_at, number_at}
-use Rattle.text.specs.declared.Numeral.TheVariants.{Value}
+use Rattle.std.specs.Prelude.{Some}
 use Rattle.text.proofs.Reading.{one_written, more_written}
 
 -- ---- a text is made of digits, whatever stands after it
@@ -91,7 +91,7 @@ text_written (suc k) n h = go (ltb n 10) refl
         let g = ltb-false n 10 u in
         more_written (decimal_in (suc (suc k)) n) (long_text k n g) ∙ ap not (ne_eqb (get_or (decimal_in (suc (suc k)) n) 0 0) 48 (text_front (suc k) n (omega arith) h))
 
-pub back : (n : ℕ) → n ≤ 18446744073709551615 → (before after : List ℕ) → digits_of after ≡ [] → number_at (before ++ (decimal_of n ++ after)) (length before) ≡ Value n (length before + length (decimal_of n))
+pub back : (n : ℕ) → n ≤ 18446744073709551615 → (before after : List ℕ) → digits_of after ≡ [] → number_at (before ++ (decimal_of n ++ after)) (length before) ≡ Some (n, length before + length (decimal_of n))
 unfolding number_at value_at
 back n h before after e =
     let f = decimal_of n in

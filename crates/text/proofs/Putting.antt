@@ -1,22 +1,25 @@
 -- Laws of what is put into a buffer, and of decimal digits that are written from the end. Assumes nothing.
-use mathlib.Core.Path.{◌≡◌, refl}
-use Prim.Native.Nat.{ℕ, zero, suc, ◌+◌, ◌-◌, ◌/◌, ◌%◌, ◌<◌, ◌≤◌}
+use mathlib.Core.Path.{◌≡◌, refl, sym}
+use Prim.Native.Nat.{ℕ, zero, suc, ◌+◌, ◌-◌, ◌/◌, ◌%◌, ◌<◌, ◌≤◌, min}
 use native.Mathlib.Nat.{not-suc-le-zero, le_of_suc-le-suc}
 use native.Mathlib.Omega.{arith}
 use mathlib.Core.List.{List, [], ◌∷◌, ◌++◌, append_assoc}
 use lib.ListN.{length, set, take, drop, length-drop}
-use lib.Seq.{take_all, take-length, paste}
+use lib.Seq.{take_all, drop-drop}
+use borrow.Rule.Slice.PartMut.{put_mid}
 use borrow.Author.Tests.{lt-ltb, le-ltb, le-leb, lt-leb}
 use Rattle.text.specs.Put.{put_on, decimal_in}
 
 -- ---- bytes
-pub put_none : (out : List ℕ) (at : ℕ) (s : List ℕ) → length out < at + length s → out ≡ put_on out at s
-unfolding put_on
-put_none out at s h = rw (lt-leb (at + length s) (length out) h)
+-- next is the place after them, at most the largest usize, and k how many bytes of the buffer are lent for them
+module _ (out : List ℕ) (at : ℕ) (s : List ℕ) (next : ℕ) (e : next ≡ min (at + length s) 18446744073709551615) where
+  pub put_none : length out < next → out ≡ put_on out at s
+  unfolding put_on
+  put_none h = rw (lt-leb (at + length s) (length out) (omega arith))
 
-pub put_all : (out : List ℕ) (at : ℕ) (s : List ℕ) (n : ℕ) → n ≡ length s → at + length s ≤ length out → paste out at s n ≡ put_on out at s
-unfolding put_on
-put_all out at s n e h = rw (le-leb (at + length s) (length out) h, e, take-length s)
+  pub put_all : length out < 18446744073709551615 → next ≤ length out → (k : ℕ) → k ≡ next - at → put_mid at k out s ≡ put_on out at s
+  unfolding put_on
+  put_all f h k d = let q : at + k ≡ at + length s = omega arith in rw (le-leb (at + length s) (length out) (omega arith), drop-drop, q) (sym (append_assoc (take at out) s (drop (at + length s) out)))
 
 -- ---- digits: a turn of the loop writes one to k, the place before i
 pub drop_set : (l : List ℕ) (i a : ℕ) → i < length l → drop i (set l i a) ≡ a ∷ drop (suc i) l

@@ -1,24 +1,23 @@
 -- Laws of what is read at a place: digits, words, lines. Each loop's turn is one of them. Assumes nothing.
 use mathlib.Core.Path.{◌≡◌, refl, sym, ap, ◌∙◌}
-use Prim.Native.Nat.{ℕ, suc, ◌+◌, ◌-◌, ◌*◌, ◌<◌, ◌≤◌}
+use Prim.Native.Nat.{ℕ, suc, ◌+◌, ◌-◌, ◌*◌, ◌<◌, ◌≤◌, min}
 use native.Mathlib.Numerals.{add-one}
 use native.Mathlib.Omega.{arith}
 use mathlib.Core.Bool.{Bool, true, false, not, cond}
 use mathlib.Core.List.{List, [], ◌∷◌}
 use lib.Dec.{leb, eqb}
-use lib.ListN.{length, get_or, drop, drop_of_length-le}
+use lib.ListN.{length, get_or, take, drop, drop_of_length-le}
 use lib.Seq.{drop-cons, get_or-drop}
-use borrow.Author.Tests.{le-leb, lt-leb, eq-eqb, ne_eqb}
+use borrow.Author.Tests.{le-leb, lt-leb, eq-eqb, ne_eqb, eqb-true, eqb-false}
 use Rattle.text.specs.Read.{is_digit, digits_of, worth, well_written, value_at, number_at, opens, word_at, skip_at, number_from, argument_at, length_before}
-use Rattle.text.specs.declared.Numeral.{Numeral}
-use Rattle.text.specs.declared.Numeral.TheVariants.{Value, Bad}
-use Rattle.text.specs.declared.Place.{Place}
-use Rattle.text.specs.declared.Place.TheVariants.{At, Bad as NoPlace}
+use lib.Pointwise.{pointwise}
+use Rattle.std.specs.Prelude.{Option, None, Some}
+use Rattle.std.proofs.lemmas.Grind.{common_steps}
 
 -- ---- digits
 -- what the digits at the front of l make, after digits that are worth v; they start at i
-unfoldable pub read_on : ℕ → ℕ → List ℕ → Numeral
-read_on v i l = cond (leb (worth v (digits_of l)) 18446744073709551615) (Value (worth v (digits_of l)) (i + length (digits_of l))) Bad
+unfoldable pub read_on : ℕ → ℕ → List ℕ → Option (ℕ × ℕ)
+read_on v i l = cond (leb (worth v (digits_of l)) 18446744073709551615) (Some (worth v (digits_of l), i + length (digits_of l))) None
 
 pub read_on_lem : (s : List ℕ) (at : ℕ) → value_at at (digits_of (drop at s)) ≡ read_on 0 at (drop at s)
 unfolding value_at read_on
@@ -30,7 +29,7 @@ unfolding worth
 worth_grows v [] = omega arith
 worth_grows v (b ∷ ds) = let h = worth_grows (v * 10 + (b - 48)) ds in omega arith
 
-none_left : (v i : ℕ) (l : List ℕ) → v ≤ 18446744073709551615 → digits_of l ≡ [] → read_on v i l ≡ Value v i
+none_left : (v i : ℕ) (l : List ℕ) → v ≤ 18446744073709551615 → digits_of l ≡ [] → read_on v i l ≡ Some (v, i)
 unfolding read_on worth
 none_left v i l f e = let z : i + 0 ≡ i = omega arith in rw (e, le-leb v 18446744073709551615 f, z)
 
@@ -38,15 +37,15 @@ module _ (s : List ℕ) (v i : ℕ) where
   abbrev here : ℕ
   here = get_or s i 0
 
-  pub digits_end : length s ≤ i → v ≤ 18446744073709551615 → read_on v i (drop i s) ≡ Value v i
+  pub digits_end : length s ≤ i → v ≤ 18446744073709551615 → read_on v i (drop i s) ≡ Some (v, i)
   unfolding digits_of
   digits_end h f = none_left v i (drop i s) f (rw (drop_of_length-le s h))
 
-  pub digits_stop : i < length s → is_digit here ≡ false → v ≤ 18446744073709551615 → read_on v i (drop i s) ≡ Value v i
+  pub digits_stop : i < length s → is_digit here ≡ false → v ≤ 18446744073709551615 → read_on v i (drop i s) ≡ Some (v, i)
   unfolding digits_of
   digits_stop h t f = none_left v i (drop i s) f (rw (drop-cons s i 0 h, t))
 
-  pub digits_past : i < length s → is_digit here ≡ true → 18446744073709551615 < v * 10 + (here - 48) → read_on v i (drop i s) ≡ Bad
+  pub digits_past : i < length s → is_digit here ≡ true → 18446744073709551615 < v * 10 + (here - 48) → read_on v i (drop i s) ≡ None
   unfolding read_on digits_of worth
   digits_past h t past =
       let g = worth_grows (v * 10 + (here - 48)) (digits_of (drop (suc i) s)) in
@@ -88,99 +87,97 @@ first_digit (b ∷ l) h = go (is_digit b) h
     go false h = absurd (omega arith)
 
 -- the place after digits that have a value
-value_next : (at : ℕ) (ds : List ℕ) (v next : ℕ) → value_at at ds ≡ Value v next → next ≡ at + length ds
+value_next : (at : ℕ) (ds : List ℕ) (v next : ℕ) → value_at at ds ≡ Some (v, next) → next ≡ at + length ds
 unfolding value_at
 value_next at ds v next e = go (leb (worth 0 ds) 18446744073709551615) e
   where
-    go : (t : Bool) → cond t (Value (worth 0 ds) (at + length ds)) Bad ≡ Value v next → next ≡ at + length ds
-    go true e = cc
-    go false e = let z : ◌≡◌ {A = ℕ} 0 1 = cc in absurd (omega arith)
+    go : (t : Bool) → cond {A = Option (ℕ × ℕ)} t (Some (worth 0 ds, at + length ds)) None ≡ Some (v, next) → next ≡ at + length ds
+    go true e = let p : ◌≡◌ {A = ℕ × ℕ} (worth 0 ds, at + length ds) (v, next) = cc in sym (ap (λ (q : ℕ × ℕ). q.1) p)
+    go false e = cc
 
 -- r is what `digits` answered
-module _ (s : List ℕ) (at : ℕ) (r : Numeral) (e : r ≡ value_at at (digits_of (drop at s))) where
+module _ (s : List ℕ) (at : ℕ) (r : Option (ℕ × ℕ)) (e : r ≡ value_at at (digits_of (drop at s))) where
   abbrev ds : List ℕ
   ds = digits_of (drop at s)
 
-  pub number_bad : r ≡ Bad → Bad ≡ number_at s at
+  pub number_bad : r ≡ None → None ≡ number_at s at
   unfolding number_at
   number_bad b = go (well_written ds)
     where
-      go : (t : Bool) → Bad ≡ cond t (value_at at ds) Bad
+      go : (t : Bool) → None ≡ cond t (value_at at ds) None
       go true = sym b ∙ e
       go false = refl
 
-  module _ (v next : ℕ) (g : r ≡ Value v next) where
+  module _ (v next : ℕ) (g : r ≡ Some (v, next)) where
     reach : next ≡ at + length ds
     reach = value_next at ds v next (sym e ∙ g)
 
-    taken : well_written ds ≡ true → Value v next ≡ number_at s at
+    taken : well_written ds ≡ true → Some (v, next) ≡ number_at s at
     unfolding number_at
     taken t = rw t (sym g ∙ e)
 
-    refused : well_written ds ≡ false → Bad ≡ number_at s at
+    refused : well_written ds ≡ false → None ≡ number_at s at
     unfolding number_at
     refused t = rw t
 
-    pub number_none : next ≤ at → Bad ≡ number_at s at
+    pub number_none : next ≤ at → None ≡ number_at s at
     number_none h = let n = reach in refused (none_written ds (omega arith))
 
-    pub number_one : at < next → next - at ≡ 1 → Value v next ≡ number_at s at
+    pub number_one : at < next → next - at ≤ 1 → Some (v, next) ≡ number_at s at
     number_one h k = let n = reach in taken (one_written ds (omega arith))
 
-    starts : at < next → (next - at ≡ 1 → ⊥) → well_written ds ≡ not (eqb (get_or s at 0) 48)
-    starts h k =
+    starts : 1 < next - at → well_written ds ≡ not (eqb (get_or s at 0) 48)
+    starts k =
         let n = reach in
         let z : at + 0 ≡ at = omega arith in
         let f = first_digit (drop at s) (omega arith) in
         more_written ds (omega arith) ∙ ap (λ (b : ℕ). not (eqb b 48)) (f ∙ get_or-drop at s 0 0 ∙ ap (λ (i : ℕ). get_or s i 0) z)
 
-    pub number_zero : at < next → (next - at ≡ 1 → ⊥) → (b : ℕ) → b ≡ get_or s at 0 → b ≡ 48 → Bad ≡ number_at s at
-    number_zero h k b o q = refused (starts h k ∙ ap not (eq-eqb (get_or s at 0) 48 (sym o ∙ q)))
+    pub number_zero : 1 < next - at → (b : ℕ) → b ≡ get_or s at 0 → eqb b 48 ≡ true → None ≡ number_at s at
+    number_zero k b o q = refused (starts k ∙ ap not (rw o at q))
 
-    pub number_more : at < next → (next - at ≡ 1 → ⊥) → (b : ℕ) → b ≡ get_or s at 0 → (b ≡ 48 → ⊥) → Value v next ≡ number_at s at
-    number_more h k b o q = taken (starts h k ∙ ap not (ne_eqb (get_or s at 0) 48 (λ p. q (o ∙ p))))
+    pub number_more : 1 < next - at → (b : ℕ) → b ≡ get_or s at 0 → eqb b 48 ≡ false → Some (v, next) ≡ number_at s at
+    number_more k b o q = taken (starts k ∙ ap not (rw o at q))
 
 -- ---- a space and a number: p is the place after the space
-pub argument_none : (s : List ℕ) (at : ℕ) (p : Place) → p ≡ skip_at s at 32 → p ≡ NoPlace → Bad ≡ argument_at s at
+pub argument_none : (s : List ℕ) (at : ℕ) (p : Option ℕ) → p ≡ skip_at s at 32 → p ≡ None → None ≡ argument_at s at
 argument_none s at p e h = ap (number_from s) (sym h ∙ e)
 
-pub argument_some : (s : List ℕ) (at : ℕ) (p : Place) (i : ℕ) (r : Numeral) → p ≡ skip_at s at 32 → p ≡ At i → r ≡ number_at s i → r ≡ argument_at s at
+pub argument_some : (s : List ℕ) (at : ℕ) (p : Option ℕ) (i : ℕ) (r : Option (ℕ × ℕ)) → p ≡ skip_at s at 32 → p ≡ Some i → r ≡ number_at s i → r ≡ argument_at s at
 argument_some s at p i r e h k = k ∙ ap (number_from s) (sym h ∙ e)
 
 -- ---- a word
-module _ (s : List ℕ) (i : ℕ) (w : List ℕ) (k : ℕ) where
-  pub word_end : length w ≤ k → word_at s i (drop k w) ≡ At i
-  unfolding word_at opens
-  word_end h = let e : i + 0 ≡ i = omega arith in rw (drop_of_length-le w h, e)
+eqb_sym : (b c : ℕ) → eqb b c ≡ eqb c b
+eqb_sym b c = go (eqb c b) refl
+  where
+    go : (t : Bool) → eqb c b ≡ t → eqb b c ≡ t
+    go true e = let h = eqb-true c b e in eq-eqb b c (sym h)
+    go false e = let h = eqb-false c b e in ne_eqb b c (λ p. h (sym p))
 
-  pub word_short : k < length w → length s ≤ i → word_at s i (drop k w) ≡ NoPlace
-  unfolding word_at opens
-  word_short h l = rw (drop-cons w k 0 h, drop_of_length-le s l)
+opens_is : (w s : List ℕ) → pointwise eqb w (take (length w) s) ≡ opens w s
+unfolding opens
+opens_is [] s = refl
+opens_is (b ∷ w) [] = refl
+opens_is (b ∷ w) (c ∷ s) = rw (eqb_sym b c, opens_is w s)
 
-  pub word_other : k < length w → i < length s → (get_or s i 0 ≡ get_or w k 0 → ⊥) → word_at s i (drop k w) ≡ NoPlace
-  unfolding word_at opens
-  word_other h l e = rw (drop-cons w k 0 h, drop-cons s i 0 l, ne_eqb (get_or s i 0) (get_or w k 0) e)
+-- what stands from a place on
+rest_is : (s : List ℕ) (at : ℕ) → take (length s - min at (length s)) (drop (min at (length s)) s) ≡ drop at s
+rest_is s at = grind (arith, common_steps)
 
-  pub word_same : k < length w → i < length s → get_or s i 0 ≡ get_or w k 0 → word_at s i (drop k w) ≡ word_at s (i + 1) (drop (k + 1) w)
-  unfolding word_at opens
-  word_same h l e =
-      let n = length (drop (suc k) w) in
-      let p : i + suc n ≡ suc i + n = omega arith in
-      rw (add-one k, add-one i, drop-cons w k 0 h, drop-cons s i 0 l, eq-eqb (get_or s i 0) (get_or w k 0) e, p)
+module _ (s : List ℕ) (at : ℕ) (w : List ℕ) where
+  abbrev stands : Bool
+  stands = pointwise eqb w (take (length w) (take (length s - min at (length s)) (drop (min at (length s)) s)))
 
--- ---- a single byte
-module _ (s : List ℕ) (i b : ℕ) where
-  pub byte_there : i < length s → get_or s i 0 ≡ b → At (i + 1) ≡ word_at s i (b ∷ [])
-  unfolding word_at opens
-  byte_there h e = rw (drop-cons s i 0 h, eq-eqb (get_or s i 0) b e)
+  stands_is : stands ≡ opens w (drop at s)
+  stands_is = rw (rest_is s at) (opens_is w (drop at s))
 
-  pub byte_other : i < length s → (get_or s i 0 ≡ b → ⊥) → NoPlace ≡ word_at s i (b ∷ [])
-  unfolding word_at opens
-  byte_other h e = rw (drop-cons s i 0 h, ne_eqb (get_or s i 0) b e)
+  pub word_there : stands ≡ true → Some (at + length w) ≡ word_at s at w
+  unfolding word_at
+  word_there e = rw (sym stands_is ∙ e)
 
-  pub byte_past : length s ≤ i → NoPlace ≡ word_at s i (b ∷ [])
-  unfolding word_at opens
-  byte_past h = rw (drop_of_length-le s h)
+  pub word_other : stands ≡ false → None ≡ word_at s at w
+  unfolding word_at
+  word_other e = rw (sym stands_is ∙ e)
 
 -- ---- the first place of a byte
 module _ (s : List ℕ) (i b : ℕ) where

@@ -1,4 +1,3 @@
-use Prim.Native.Nat.{◌-◌}
 use native.Mathlib.Omega.{arith}
 use Rattle.text.proofs.Reading.{find_past, find_here, find_more}
 use Rattle.text.proofs.find.Goals as goal
@@ -11,7 +10,7 @@ returns-then-s-i c =
 pub loop-i-preserved : goal.loop-i-preserved
 loop-i-preserved c =
     let e = find_more c.args.s.now c.loop-i.i c.args.b c.loop-i-test.true c.if-s-i.false in
-    (omega arith, omega arith, omega arith)
+    (omega arith, omega arith)
 
 pub returns : goal.returns
 returns c =

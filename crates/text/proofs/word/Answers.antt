@@ -1,20 +1,10 @@
-use mathlib.Core.Path.{refl, ◌∙◌, sym}
-use Prim.Native.Nat.{◌-◌}
-use native.Mathlib.Omega.{arith}
-use Rattle.text.proofs.Reading.{word_end, word_short, word_other, word_same}
+-- `text::word` meets its contract. Assumes nothing.
+use mathlib.Core.Path.{◌∙◌, sym}
+use Rattle.text.proofs.Reading.{word_there, word_other}
 use Rattle.text.proofs.word.Goals as goal
 
-pub loop-k-init : goal.loop-k-init
-loop-k-init c = refl
+pub returns-then-starts_with : goal.returns-then-starts_with
+returns-then-starts_with c = word_there c.args.s.now c.args.at c.args.w.now (rw (sym c.min.ensures) (sym c.starts_with.ensures.value ∙ c.if-starts_with.true))
 
-pub returns-then-s-i : goal.returns-then-s-i
-returns-then-s-i c = sym (c.loop-k.invariant ∙ word_short c.args.s.now c.loop-k.i c.args.w.now c.loop-k.k c.loop-k-test.true c.if-s-i.true)
-
-pub returns-then-s-i-2 : goal.returns-then-s-i-2
-returns-then-s-i-2 c = sym (c.loop-k.invariant ∙ word_other c.args.s.now c.loop-k.i c.args.w.now c.loop-k.k c.loop-k-test.true (omega arith) c.if-s-i-2.true)
-
-pub loop-k-preserved : goal.loop-k-preserved
-loop-k-preserved c = c.loop-k.invariant ∙ word_same c.args.s.now c.loop-k.i c.args.w.now c.loop-k.k c.loop-k-test.true (omega arith) c.if-s-i-2.false
-
-pub returns : goal.returns
-returns c = sym (c.loop-k.invariant ∙ word_end c.args.s.now c.loop-k.i c.args.w.now c.loop-k.k c.loop-k-test.false)
+pub returns-else-starts_with : goal.returns-else-starts_with
+returns-else-starts_with c = word_other c.args.s.now c.args.at c.args.w.now (rw (sym c.min.ensures) (sym c.starts_with.ensures.value ∙ c.if-starts_with.false))

@@ -1,0 +1,55 @@
+// What a call comes to, and how it is told.
+use refusal::NONE;
+use std::io;
+
+#[derive(Clone, Copy)]
+pub enum Outcome {
+    Taken,
+    Is(bool),
+    Elsewhere,
+    Refused(u64),
+}
+
+impl From<u64> for Outcome {
+    fn from(refusal: u64) -> Outcome {
+        match refusal {
+            NONE => Outcome::Taken,
+            n => Outcome::Refused(n),
+        }
+    }
+}
+
+impl From<bool> for Outcome {
+    fn from(is: bool) -> Outcome {
+        Outcome::Is(is)
+    }
+}
+
+pub fn say<T: Into<Outcome>>(rt: &impl Print, text: &str, outcome: T) -> io::Result<()> {
+    match outcome.into() {
+        Outcome::Taken => println!(rt; "{text}: ok"),
+        Outcome::Is(is) => println!(rt; "{text}: {is}"),
+        Outcome::Elsewhere => println!(rt; "{text}: elsewhere"),
+        Outcome::Refused(n) => println!(rt; "{text}: no {n}"),
+    }
+}
+
+// What a call answers, how many entries the list then has, and the last of them.
+pub fn say_list(
+    rt: &impl Print,
+    text: &str,
+    refusal: u64,
+    count: usize,
+    of: &str,
+    last: u64,
+) -> io::Result<()> {
+    match refusal {
+        NONE => println!(rt; "{text}: taken, {count} {of}, the last is {last}"),
+        n => println!(rt; "{text}: no {n}, {count} {of}, the last is {last}"),
+    }
+}
+
+// The last of the first n.
+pub fn last<T: Copy>(xs: &[T], n: usize) -> Option<T> {
+    xs.get(n.checked_sub(1)?).copied()
+}
