@@ -22,7 +22,7 @@ use Rattle.emath.specs.declared.Vec2.{Vec2}
 use Rattle.grid.specs.Grid.{magnitude_of, pivot_pos_refusal}
 use Rattle.vec2.specs.Length.{digits_up, nearest_of, length_of}
 use Rattle.vec2.proofs.Laws.{OnGrid, on_grid_lem, off_grid_lem, grid_or_not, rooted, nearest_is, length_value}
-use Rattle.std.specs.Prelude.{Option, None, Some}
+use Rattle.std.specs.Prelude.{None, Some}
 use Rattle.candidate.specs.Candidate as spec
 use Rattle.candidate.specs.Candidate.{along_of, acos_angle, cone_bound, is_in_search_cone, score_of, verdict, judge_of, is_farther}
 use Rattle.candidate.proofs.Bound.{bound, bound_is}

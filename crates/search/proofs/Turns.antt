@@ -3,7 +3,7 @@ use mathlib.Core.Path.{◌≡◌, refl, sym, ap, ◌∙◌}
 use Prim.Native.Nat.{ℕ}
 use mathlib.Core.Bool.{Bool, true, false, not, ◌||◌, cond}
 use lib.Dec.{eqb}
-use lib.Ieee.{Float, lt, eq}
+use lib.Ieee.{Float}
 use borrow.Author.Tests.{eq-eqb, ne_eqb}
 use Rattle.floats.proofs.Order.{lt_apart}
 use Rattle.emath.specs.declared.Rect.{Rect}
@@ -13,7 +13,7 @@ use Rattle.candidate.specs.Candidate.{to_candidate, judge_of, is_farther}
 use Rattle.candidate.proofs.Reach.{farther_loses}
 use Rattle.search.specs.declared.Candidate.{Candidate}
 use Rattle.search.specs.declared.Scored.{Scored}
-use Rattle.search.specs.Search.{considered_of, goes_first, is_better}
+use Rattle.search.specs.Search.{considered_of, is_better}
 use Rattle.search.specs.Walk.{kept_of, taken_of, step_of}
 
 module _ (focused : ℕ) (current : Rect) (direction : ℕ) (best : Scored) (c : Candidate) where
