@@ -1,6 +1,6 @@
 // Numbers on and off the grid, rectangles, and areas by their pivots.
 use crate::outcome::{Outcome, say};
-use area::{Align2, AreaState, PivotPos, PosAnswer, RectAnswer, Size, StateAnswer};
+use area::{Align2, AreaState, PivotPos, Size};
 use emath::{Pos2, Rect};
 use std::io;
 
@@ -103,24 +103,24 @@ fn is_at(p: Pos2, x: f32, y: f32) -> Outcome {
 // Whether the left top is at (x, y).
 fn left_top(s: AreaState, x: f32, y: f32) -> Outcome {
     match s.left_top_pos() {
-        PosAnswer::Is(p) => is_at(p, x, y),
-        PosAnswer::Refused(n) => Outcome::Refused(n),
+        Ok(p) => is_at(p, x, y),
+        Err(n) => Outcome::from(n),
     }
 }
 
 // Whether the right bottom is at (x, y).
 fn right_bottom(s: AreaState, x: f32, y: f32) -> Outcome {
     match s.rect() {
-        RectAnswer::Is(r) => is_at(r.max, x, y),
-        RectAnswer::Refused(n) => Outcome::Refused(n),
+        Ok(r) => is_at(r.max, x, y),
+        Err(n) => Outcome::from(n),
     }
 }
 
 // Whether the left top is at (x, y) after it was set there.
 fn moved(s: AreaState, x: f32, y: f32) -> Outcome {
     match s.set_left_top_pos(Pos2 { x, y }) {
-        StateAnswer::Is(t) => left_top(t, x, y),
-        StateAnswer::Refused(n) => Outcome::Refused(n),
+        Ok(t) => left_top(t, x, y),
+        Err(n) => Outcome::from(n),
     }
 }
 

@@ -9,13 +9,13 @@ mod searches;
 mod stack;
 
 use crate::outcome::{Outcome, say};
-use input::{Event, EventFilter, Matched};
+use input::{Event, EventFilter};
 use std::io;
 
 fn matched(event: Event) -> Outcome {
     match EventFilter::new().matches(event) {
-        Matched::Is(is) => Outcome::Is(is),
-        Matched::Refused(n) => Outcome::Refused(n),
+        Ok(is) => Outcome::Is(is),
+        Err(n) => Outcome::from(n),
     }
 }
 

@@ -1,5 +1,5 @@
 // What a call comes to, and how it is told.
-use refusal::NONE;
+use refusal::{NONE, Refusal};
 use std::io;
 
 #[derive(Clone, Copy)]
@@ -15,6 +15,21 @@ impl From<u64> for Outcome {
         match refusal {
             NONE => Outcome::Taken,
             n => Outcome::Refused(n),
+        }
+    }
+}
+
+impl From<Refusal> for Outcome {
+    fn from(refusal: Refusal) -> Outcome {
+        Outcome::Refused(u64::from(refusal))
+    }
+}
+
+impl From<Result<(), Refusal>> for Outcome {
+    fn from(checked: Result<(), Refusal>) -> Outcome {
+        match checked {
+            Ok(()) => Outcome::Taken,
+            Err(refusal) => Outcome::from(refusal),
         }
     }
 }

@@ -2,19 +2,15 @@
 use crate::answer::Answer;
 use crate::forms;
 use crate::forms::Put;
-use area::{AreaState, PivotPos, PosAnswer, RectAnswer, Size};
-use area_table::Held;
+use area::{PivotPos, Size};
 use areas::Layers;
 use emath::Pos2;
-use focus_rules::IdAnswer;
-use input::Matched;
 use layer_queries::{FlagAnswer, LayerAnswer, OrderingAnswer};
 use layers::LayerId;
 use memory_rules::{AreaRectAnswer, PopupPos, PositionAnswer};
 use refusal::NONE;
 use widget_queries::{ContainsAnswer, OrderAnswer, WidgetAnswer};
 use widget_rect::WidgetRect;
-use widget_rows::Listed;
 
 // ---- values
 
@@ -89,31 +85,7 @@ pub fn widget(widget: WidgetAnswer) -> Result<Option<WidgetRect>, u64> {
     }
 }
 
-// The next widget of a list, and where to look for the one after it.
-pub fn listed(listed: Listed) -> Option<(usize, WidgetRect)> {
-    match listed {
-        Listed::Widget(next, w) => Some((next, w)),
-        Listed::End => None,
-    }
-}
-
-pub fn held(held: Held) -> Option<AreaState> {
-    match held {
-        Held::Occupied(state) => Some(state),
-        Held::Vacant => None,
-    }
-}
-
 // ---- answers
-
-impl Put for IdAnswer {
-    fn put(self, answer: &mut Answer) {
-        match self {
-            IdAnswer::Is(n) => n.put(answer),
-            IdAnswer::Nothing => answer.word(b"none"),
-        }
-    }
-}
 
 impl Put for FlagAnswer {
     fn put(self, answer: &mut Answer) {
@@ -133,47 +105,11 @@ impl Put for ContainsAnswer {
     }
 }
 
-impl Put for Matched {
-    fn put(self, answer: &mut Answer) {
-        match self {
-            Matched::Is(b) => b.put(answer),
-            Matched::Refused(n) => forms::put_refusal(n, answer),
-        }
-    }
-}
-
 impl Put for OrderingAnswer {
     fn put(self, answer: &mut Answer) {
         match self {
             OrderingAnswer::Is(n) => n.put(answer),
             OrderingAnswer::Refused(n) => forms::put_refusal(n, answer),
-        }
-    }
-}
-
-impl Put for PosAnswer {
-    fn put(self, answer: &mut Answer) {
-        match self {
-            PosAnswer::Is(p) => p.put(answer),
-            PosAnswer::Refused(n) => forms::put_refusal(n, answer),
-        }
-    }
-}
-
-impl Put for RectAnswer {
-    fn put(self, answer: &mut Answer) {
-        match self {
-            RectAnswer::Is(r) => r.put(answer),
-            RectAnswer::Refused(n) => forms::put_refusal(n, answer),
-        }
-    }
-}
-
-impl Put for area::StateAnswer {
-    fn put(self, answer: &mut Answer) {
-        match self {
-            area::StateAnswer::Is(s) => s.put(answer),
-            area::StateAnswer::Refused(n) => forms::put_refusal(n, answer),
         }
     }
 }
