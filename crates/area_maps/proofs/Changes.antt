@@ -16,7 +16,7 @@ use Rattle.layer_rows.specs.declared.Row.{Row}
 use Rattle.layer_rows.specs.Rows.{marked}
 use Rattle.layer_queries.specs.Queries.{shown_last, is_child_row}
 use Rattle.layer_table.specs.Layers.{raised_row, to_top}
-use Rattle.area_table.specs.declared.Held.TheVariants.{Vacant}
+use Rattle.std.specs.Prelude.{None}
 use Rattle.area_table.specs.Table.{Entry, get_in, insert_in}
 use Rattle.area_table.specs.Table as Table
 use Rattle.area_stack.specs.Stack.{shown_row}
@@ -50,8 +50,8 @@ module _ (f : Row → Row) (keeps : (r : Row) → (f r).layer ≡ r.layer) (pare
   here = rw (layers_marked f keeps l rows) (pushed_self l (layers_in rows))
 
   -- the ids that have a state are those of layers
-  pub marked_known : (entries entries' : List Entry) → ((id : ℕ) → (get_in entries id ≡ Vacant → ⊥) → some (has_id id) (layers_in rows) ≡ true)
-      → ((id : ℕ) → (get_in entries' id ≡ Vacant → ⊥) → eqb l.id id ≡ false → (get_in entries id ≡ Vacant → ⊥)) → (id : ℕ) → (get_in entries' id ≡ Vacant → ⊥) → some (has_id id) (layers_in (marked f rows l)) ≡ true
+  pub marked_known : (entries entries' : List Entry) → ((id : ℕ) → (get_in entries id ≡ None → ⊥) → some (has_id id) (layers_in rows) ≡ true)
+      → ((id : ℕ) → (get_in entries' id ≡ None → ⊥) → eqb l.id id ≡ false → (get_in entries id ≡ None → ⊥)) → (id : ℕ) → (get_in entries' id ≡ None → ⊥) → some (has_id id) (layers_in (marked f rows l)) ≡ true
   marked_known entries entries' old k id h = go (eqb l.id id) refl
     where
       go : (t : Bool) → eqb l.id id ≡ t → some (has_id id) (layers_in (marked f rows l)) ≡ true
@@ -59,7 +59,7 @@ module _ (f : Row → Row) (keeps : (r : Row) → (f r).layer ≡ r.layer) (pare
       go false e = some_still (has_id id) (layers_in rows) (layers_in (marked f rows l)) still (old id (k id h e))
 
   pub sound_marked : l.order ≤ last_order → (entries entries' : List Entry) → Sound placed rows entries → Table.Distinct entries'
-      → ((id : ℕ) → (get_in entries' id ≡ Vacant → ⊥) → eqb l.id id ≡ false → (get_in entries id ≡ Vacant → ⊥)) → Sound placed (marked f rows l) entries'
+      → ((id : ℕ) → (get_in entries' id ≡ None → ⊥) → eqb l.id id ≡ false → (get_in entries id ≡ None → ⊥)) → Sound placed (marked f rows l) entries'
   sound_marked o entries entries' s d k = record {
     placed_held = omega (arith, s.placed_held, mark_longer f keeps l rows);
     distinct = rw (layers_marked f keeps l rows) (pushed_distinct l (layers_in rows) s.distinct);

@@ -20,8 +20,8 @@ use Rattle.layer_queries.specs.declared.Listing.TheVariants.{All as Whole, Visib
 use Rattle.layer_queries.specs.declared.LayerAnswer.TheVariants.{Nothing, Is}
 use Rattle.layer_queries.specs.Queries.{shown_last, is_visible_row, is_sublayer_row, is_child_row, is_top_row, is_window_row, is_listed, rank_in, compared_by, last_of, parent_in}
 use Rattle.layer_table.specs.Layers.{pair_refusal, other_parent, family_refusal}
-use Rattle.area_table.specs.declared.Held.{Held}
-use Rattle.area_table.specs.declared.Held.TheVariants.{Vacant}
+use Rattle.std.specs.Prelude.{Option, None}
+use Rattle.area.specs.declared.AreaState.{AreaState}
 use Rattle.area_table.specs.Table.{Table, Entry, held_of, entries_of}
 use Rattle.area_table.proofs.Entries.{entries_get}
 use Rattle.areas.specs.declared.Window.{Window}
@@ -141,11 +141,11 @@ module _ (placed : ℕ) (rows : List Row) (entries : List Entry) where
           window : LayerId → List Window
           window l = window_in l (Egui.get m l.id)
 
-          where_shown : (b : Bool) (l : LayerId) (h : Held) → window_in l (cond b h Vacant) ≡ cond b (window_in l h) []
+          where_shown : (b : Bool) (l : LayerId) (h : Option AreaState) → window_in l (cond b h None) ≡ cond b (window_in l h) []
           where_shown true l h = refl
           where_shown false l h = refl
 
-          go : (b : Bool) (x l : LayerId) (from : ℕ) → b ≡ (is_shown l && is_top l) → x ≡ l → window_in x (cond b (held_of t states from x.id) Vacant) ≡ cond (is_shown l && is_top l) (window l) []
+          go : (b : Bool) (x l : LayerId) (from : ℕ) → b ≡ (is_shown l && is_top l) → x ≡ l → window_in x (cond b (held_of t states from x.id) None) ≡ cond (is_shown l && is_top l) (window l) []
           go b x l from p q = rw (p, q, query_get from l.id) (where_shown (is_shown l && is_top l) l (Egui.get m l.id))
 
     -- ---- the refusal of a pair that does not fit: in one Order, the rows know it by the parent's id

@@ -10,7 +10,7 @@ use Rattle.stacking.specs.Lists.{some}
 use Rattle.stacking.specs.Stacking.{Distinct, Orders, Pairs}
 use Rattle.layer_rows.specs.declared.Row.{Row}
 use Rattle.layer_table.specs.Layers.{room_in}
-use Rattle.area_table.specs.declared.Held.TheVariants.{Vacant}
+use Rattle.std.specs.Prelude.{None}
 use Rattle.area_table.specs.Table.{Entry, get_in, room_of}
 use Rattle.area_table.specs.Table as Table
 use Rattle.areas.specs.declared.Areas.{Areas}
@@ -27,7 +27,7 @@ pub record Sound (placed : ℕ) (rows : List Row) (entries : List Entry) : Type 
   pub orders : Orders (layers_in rows)
   pub pairs : Pairs (layers_in rows) (child_in rows)
   pub entries_distinct : Table.Distinct entries
-  pub entries_known : (id : ℕ) → (get_in entries id ≡ Vacant → ⊥) → some (has_id id) (layers_in rows) ≡ true
+  pub entries_known : (id : ℕ) → (get_in entries id ≡ None → ⊥) → some (has_id id) (layers_in rows) ≡ true
 
 -- and of the record
 pub record SoundAreas (limit : ℕ) (a : Areas) : Type 0 where

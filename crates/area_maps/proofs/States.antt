@@ -23,7 +23,7 @@ use Rattle.layer_rows.proofs.Rows.{held_length}
 use Rattle.layer_rows.proofs.Table.{held_on, on_length}
 use Rattle.layer_rows.proofs.Marks.{mark_length}
 use Rattle.layer_table.specs.Layers.{room_in}
-use Rattle.area_table.specs.declared.Held.TheVariants.{Vacant}
+use Rattle.std.specs.Prelude.{None}
 use Rattle.area_table.specs.Table.{Entry, room_of, held_in, spot_of, put_in, entries_of, get_in, insert_in, elem}
 use Rattle.area_table.specs.Table as Table
 use Rattle.area_table.proofs.Entries.{entries_put, entries_count, put_room, insert_distinct, insert_get, distinct_fits}
@@ -54,7 +54,7 @@ ids_length [] = refl
 ids_length (l ∷ order) = ap suc (ids_length order)
 
 -- what a map holds after an insert, of other ids
-other_id : (entries : List Entry) (x : ℕ) (state : AreaState) (id : ℕ) → (get_in (insert_in entries x state) id ≡ Vacant → ⊥) → eqb x id ≡ false → (get_in entries id ≡ Vacant → ⊥)
+other_id : (entries : List Entry) (x : ℕ) (state : AreaState) (id : ℕ) → (get_in (insert_in entries x state) id ≡ None → ⊥) → eqb x id ≡ false → (get_in entries id ≡ None → ⊥)
 other_id entries x state id h e v = h (insert_get entries x state id ∙ rw (e, v))
 
 reach : (n k : ℕ) → cond (ltb k n) n (k + 1) ≡ max n (k + 1)
@@ -74,7 +74,7 @@ module _ (limit : ℕ) (a : Areas) (s : SoundAreas limit a) (l : LayerId) (state
   abbrev entries : List Entry
   entries = insert_in (entries_in a) l.id state
 
-  known : (id : ℕ) → (get_in entries id ≡ Vacant → ⊥) → some (has_id id) (layers_in stack) ≡ true
+  known : (id : ℕ) → (get_in entries id ≡ None → ⊥) → some (has_id id) (layers_in stack) ≡ true
   known = marked_known (shown_row (slot + 1)) (λ r. refl) (λ p r. refl) l a.placed (stack_of a) (entries_in a) entries s.sound.entries_known (other_id (entries_in a) l.id state)
 
   distinct : Table.Distinct entries

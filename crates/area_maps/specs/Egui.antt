@@ -1,5 +1,5 @@
 -- Areas of memory/mod.rs (lines 1199 to 1440) in its own terms, its maps, sets and lists. Definitions only.
-use Rattle.std.specs.Prelude.{ℕ, suc, Bool, false, cond, not, ◌&&◌, ◌||◌, List, [], ◌∷◌, ◌++◌, eqb, ltb, length}
+use Rattle.std.specs.Prelude.{Option, ℕ, suc, Bool, false, cond, not, ◌&&◌, ◌||◌, List, [], ◌∷◌, ◌++◌, eqb, ltb, length}
 use Rattle.refusal.specs.Refusal.{none, full, bad_family, lowest}
 use Rattle.emath.specs.declared.Pos2.{Pos2}
 use Rattle.area.specs.declared.AreaState.{AreaState}
@@ -8,7 +8,6 @@ use Rattle.layers.specs.declared.LayerId.{LayerId}
 use Rattle.layers.specs.Layers.{is_layer, layer_refusal}
 use Rattle.stacking.specs.Lists.{keep, some, each}
 use Rattle.stacking.specs.Stacking.{stacked, holds}
-use Rattle.area_table.specs.declared.Held.{Held}
 use Rattle.area_table.specs.Table.{Entry, get_in, insert_in}
 use Rattle.layer_queries.specs.declared.LayerAnswer.{LayerAnswer}
 use Rattle.layer_queries.specs.declared.LayerAnswer.TheVariants.{Nothing, Is}
@@ -75,7 +74,7 @@ module _ (m : Areas) where
       record { areas = m.areas; last = m.current; current = λ l. false; order = order; order_map = place_in order; on_top = λ l. false; sublayers = λ p c. false }
 
   -- ---- the queries (lines 1228 to 1261, 1285 to 1333 and 1371 to 1396)
-  unfoldable pub get : ℕ → Held
+  unfoldable pub get : ℕ → Option AreaState
   get id = get_in m.areas id
 
   abbrev pub is_interactable : LayerId → Bool

@@ -1,5 +1,4 @@
 -- Laws that the proofs share.
-pub mod Answers
 pub mod States
 pub mod Rows
 pub mod Listings

@@ -9,7 +9,7 @@ use Rattle.layer_rows.specs.declared.Row.{Row}
 use Rattle.layer_rows.specs.Rows.{held_rows}
 use Rattle.layer_queries.specs.declared.Listing.{Listing}
 use Rattle.layer_queries.specs.Queries.{is_listed}
-use Rattle.area_stack.specs.declared.NextLayer.TheVariants.{End, Is}
+use Rattle.std.specs.Prelude.{None, Some}
 use Rattle.area_stack.specs.Stack.{next_layer}
 use Rattle.area_stack.proofs.Rows.{past_held, row_more}
 
@@ -19,12 +19,12 @@ module _ (listing : Listing) where
   Passed rows from k = next_layer listing from (drop from rows) ≡ next_layer listing k (drop k rows)
 
   module _ (count : ℕ) (w : List ℕ) (from k n : ℕ) (a : Passed (held_rows count w) from k) (e : n ≡ min count (length w / 8)) where
-    pub none_found : n ≤ k → End ≡ next_layer listing from (drop from (held_rows count w))
+    pub none_found : n ≤ k → None ≡ next_layer listing from (drop from (held_rows count w))
     unfolding next_layer
     none_found h = sym (a ∙ rw (past_held count w k n e h))
 
     module _ (h : k < n) (d r : Row) (q : r ≡ get_or (held_rows count w) k d) (b : Bool) (t : b ≡ is_listed listing r) where
-      pub one_found : b ≡ true → Is (k + 1) r.layer ≡ next_layer listing from (drop from (held_rows count w))
+      pub one_found : b ≡ true → Some (k + 1, r.layer) ≡ next_layer listing from (drop from (held_rows count w))
       unfolding next_layer
       one_found z = sym (a ∙ rw (row_more count w k n e h d r q, ← t, z, add-one))
 

@@ -7,10 +7,8 @@ use lib.ListN.{length, get_or, drop}
 use Rattle.area.specs.declared.AreaState.{AreaState}
 use Rattle.layer_rows.specs.declared.Row.{Row}
 use Rattle.layer_rows.specs.Rows.{held_rows}
-use Rattle.area_table.specs.declared.Held.{Held}
-use Rattle.area_table.specs.declared.Held.TheVariants.{Vacant, Occupied}
 use Rattle.area_table.specs.Table.{Table}
-use Rattle.area_stack.specs.declared.NextWindow.TheVariants.{End, Is}
+use Rattle.std.specs.Prelude.{Option, None, Some}
 use Rattle.area_stack.specs.Stack.{window_state, next_window}
 use Rattle.area_stack.proofs.Rows.{past_held, row_more}
 
@@ -20,15 +18,15 @@ module _ (t : Table) (states : ℕ) where
   Passed rows from k = next_window t states from (drop from rows) ≡ next_window t states k (drop k rows)
 
   module _ (count : ℕ) (w : List ℕ) (from k n : ℕ) (a : Passed (held_rows count w) from k) (e : n ≡ min count (length w / 8)) where
-    pub none_found : n ≤ k → End ≡ next_window t states from (drop from (held_rows count w))
+    pub none_found : n ≤ k → None ≡ next_window t states from (drop from (held_rows count w))
     unfolding next_window
     none_found h = sym (a ∙ rw (past_held count w k n e h))
 
-    module _ (h : k < n) (d r : Row) (q : r ≡ get_or (held_rows count w) k d) (f : Held) (p : f ≡ window_state t states r) where
-      pub one_found : (s : AreaState) → f ≡ Occupied s → Is (k + 1) r.layer s ≡ next_window t states from (drop from (held_rows count w))
+    module _ (h : k < n) (d r : Row) (q : r ≡ get_or (held_rows count w) k d) (f : Option AreaState) (p : f ≡ window_state t states r) where
+      pub one_found : (s : AreaState) → f ≡ Some s → Some (k + 1, r.layer, s) ≡ next_window t states from (drop from (held_rows count w))
       unfolding next_window
       one_found s z = sym (a ∙ rw (row_more count w k n e h d r q, ← p, z, add-one))
 
-      pub one_passed : f ≡ Vacant → Passed (held_rows count w) from (k + 1)
+      pub one_passed : f ≡ None → Passed (held_rows count w) from (k + 1)
       unfolding next_window
       one_passed z = a ∙ rw (row_more count w k n e h d r q, ← p, z, add-one)

@@ -1,6 +1,6 @@
 -- Areas (memory/mod.rs, lines 1199 to 1440): its lent tables, and what a call does to them. What they mean in egui's terms is crate `area_maps`; a reader needs only that.
 -- Definitions only.
-use Rattle.std.specs.Prelude.{ℕ, suc, ◌+◌, max, Bool, true, false, cond, ◌&&◌, List, [], ◌∷◌, ltb, Float, length}
+use Rattle.std.specs.Prelude.{Option, None, Some, ℕ, suc, ◌+◌, max, Bool, true, false, cond, ◌&&◌, List, [], ◌∷◌, ltb, Float, length}
 use Rattle.refusal.specs.Refusal.{none, full, lowest, id_refusal, answered, kept}
 use Rattle.emath.specs.declared.Pos2.{Pos2}
 use Rattle.emath.specs.Rect.{contains_pos}
@@ -15,13 +15,9 @@ use Rattle.layer_queries.specs.declared.LayerAnswer.{LayerAnswer}
 use Rattle.layer_queries.specs.declared.Listing.{Listing}
 use Rattle.layer_queries.specs.Queries.{is_visible_row, is_window_row, is_listed, last_of, flag_answer}
 use Rattle.layer_table.specs.Layers.{room_in}
-use Rattle.area_table.specs.declared.Held.{Held}
-use Rattle.area_table.specs.declared.Held.TheVariants.{Vacant, Occupied}
 use Rattle.area_table.specs.Table.{Table, table_in, room_of, held_in, spot_of, held_of, put_in}
 use Rattle.area_stack.specs.declared.StateAnswer.{StateAnswer}
 use Rattle.area_stack.specs.declared.StateAnswer.TheVariants as State
-use Rattle.area_stack.specs.declared.NextLayer.{NextLayer}
-use Rattle.area_stack.specs.declared.NextWindow.{NextWindow}
 
 -- ---- the tables: how many rows and states are held, the rows of the layers, and the map of the states
 pub record Tables : Type 0 where
@@ -61,24 +57,24 @@ unfoldable pub set_state_of : Tables → LayerId → AreaState → Tables
 set_state_of t layer s = kept (set_state_refusal t layer s) t (with_state t layer s)
 
 -- ---- `get` and `is_interactable`, from what the map holds of an id
-abbrev pub state_in : Held → StateAnswer
-state_in Vacant = State.Nothing
-state_in (Occupied s) = State.Is s
+abbrev pub state_in : Option AreaState → StateAnswer
+state_in None = State.Nothing
+state_in (Some s) = State.Is s
 
-abbrev pub state_answer : ℕ → Held → StateAnswer
+abbrev pub state_answer : ℕ → Option AreaState → StateAnswer
 state_answer id = answered state_in State.Refused (id_refusal id)
 
-abbrev pub is_interactable : Held → Bool
-is_interactable Vacant = true
-is_interactable (Occupied s) = s.interactable
+abbrev pub is_interactable : Option AreaState → Bool
+is_interactable None = true
+is_interactable (Some s) = s.interactable
 
-abbrev pub interactable_answer : LayerId → Held → FlagAnswer
+abbrev pub interactable_answer : LayerId → Option AreaState → FlagAnswer
 interactable_answer layer held = flag_answer (layer_refusal layer) (is_interactable held)
 
 -- ---- `layer_id_at`
-abbrev pub hit_by : Pos2 → Held → Bool
-hit_by pos Vacant = false
-hit_by pos (Occupied s) = s.interactable && contains_pos (rect_of s) pos
+abbrev pub hit_by : Pos2 → Option AreaState → Bool
+hit_by pos None = false
+hit_by pos (Some s) = s.interactable && contains_pos (rect_of s) pos
 
 abbrev pub hit_row : Table → ℕ → Pos2 → Row → Bool
 hit_row t states pos r = is_visible_row r && hit_by pos (held_of t states r.area r.layer.id)
@@ -87,17 +83,17 @@ unfoldable pub layer_id_at : Tables → Pos2 → LayerAnswer
 layer_id_at t pos = last_of (hit_row t.areas t.states pos) (stack_in t)
 
 -- ---- listings: the next layer of one, and the next window, from a row on
-unfoldable pub next_layer : Listing → ℕ → List Row → NextLayer
-next_layer listing k [] = NextLayer.End
-next_layer listing k (r ∷ rows) = cond (is_listed listing r) (NextLayer.Is (suc k) r.layer) (next_layer listing (suc k) rows)
+unfoldable pub next_layer : Listing → ℕ → List Row → Option (ℕ × LayerId)
+next_layer listing k [] = None
+next_layer listing k (r ∷ rows) = cond (is_listed listing r) (Some (suc k, r.layer)) (next_layer listing (suc k) rows)
 
-abbrev pub window_state : Table → ℕ → Row → Held
-window_state t states r = cond (is_window_row r) (held_of t states r.area r.layer.id) Vacant
+abbrev pub window_state : Table → ℕ → Row → Option AreaState
+window_state t states r = cond (is_window_row r) (held_of t states r.area r.layer.id) None
 
-abbrev pub or_window : Held → ℕ → LayerId → NextWindow → NextWindow
-or_window Vacant k layer rest = rest
-or_window (Occupied s) k layer rest = NextWindow.Is k layer s
+abbrev pub or_window : Option AreaState → ℕ → LayerId → Option (ℕ × LayerId × AreaState) → Option (ℕ × LayerId × AreaState)
+or_window None k layer rest = rest
+or_window (Some s) k layer rest = Some (k, layer, s)
 
-unfoldable pub next_window : Table → ℕ → ℕ → List Row → NextWindow
-next_window t states k [] = NextWindow.End
+unfoldable pub next_window : Table → ℕ → ℕ → List Row → Option (ℕ × LayerId × AreaState)
+next_window t states k [] = None
 next_window t states k (r ∷ rows) = or_window (window_state t states r) (suc k) r.layer (next_window t states (suc k) rows)

@@ -10,35 +10,33 @@ use lib.Dec.{eqb, ltb}
 use lib.ListN.{length, get_or, take, set, length-set, length-append, get_or-append}
 use lib.Seq.{length-take-le, get_or-take, get_or_at, get_or-set_same, get_or-set_other, ext_get_or}
 use borrow.Author.Tests.{eqb-true, eqb-false, eq-eqb, ne_eqb, lt-ltb, le-ltb}
-use Rattle.tables.specs.declared.Found.{Found}
-use Rattle.tables.specs.declared.Found.TheVariants.{At, Nothing}
 use Rattle.tables.proofs.Finding.{nearest_at, nearest_none}
 use Rattle.tables.proofs.Rows.{put_length}
 use Rattle.area.specs.declared.AreaState.{AreaState}
-use Rattle.area_table.specs.declared.Held.TheVariants.{Vacant, Occupied}
+use Rattle.std.specs.Prelude.{Option, None, Some}
 use Rattle.area_table.specs.Table.{Table, Entry, codes_of, floats_of, room_of, held_in, found_in, spot_at, spot_of, held_at, held_of, put_in, entries_from, entries_of, get_in, insert_in, Distinct, elem}
 use Rattle.area_table.proofs.Places.{rows_fit}
 use Rattle.area_table.proofs.States.{entry_at, with_row, entry_here, entry_there}
 
-occupied_vacant : {s : AreaState} → Occupied s ≡ Vacant → ⊥
-occupied_vacant e = let z : ◌≡◌ {A = ℕ} 0 1 = cc in omega arith
+some_none : {s : AreaState} → Some s ≡ None → ⊥
+some_none e = let z : ◌≡◌ {A = ℕ} 0 1 = cc in omega arith
 
 -- ---- a map after an insert
-pub insert_get : (es : List Entry) (id : ℕ) (s : AreaState) (x : ℕ) → get_in (insert_in es id s) x ≡ cond (eqb id x) (Occupied s) (get_in es x)
+pub insert_get : (es : List Entry) (id : ℕ) (s : AreaState) (x : ℕ) → get_in (insert_in es id s) x ≡ cond (eqb id x) (Some s) (get_in es x)
 unfolding get_in insert_in
 insert_get [] id s x = refl
 insert_get (e ∷ es) id s x = go (eqb e.id id) refl (insert_get es id s x)
   where
-    same : (b : Bool) → eqb id x ≡ b → e.id ≡ id → cond b (Occupied s) (get_in es x) ≡ cond b (Occupied s) (cond (eqb e.id x) (Occupied e.state) (get_in es x))
+    same : (b : Bool) → eqb id x ≡ b → e.id ≡ id → cond b (Some s) (get_in es x) ≡ cond b (Some s) (cond (eqb e.id x) (Some e.state) (get_in es x))
     same true p q = refl
     same false p q = rw (q, p)
 
-    other : (b c : Bool) → eqb e.id x ≡ b → eqb id x ≡ c → (e.id ≡ id → ⊥) → cond b (Occupied e.state) (cond c (Occupied s) (get_in es x)) ≡ cond c (Occupied s) (cond b (Occupied e.state) (get_in es x))
+    other : (b c : Bool) → eqb e.id x ≡ b → eqb id x ≡ c → (e.id ≡ id → ⊥) → cond b (Some e.state) (cond c (Some s) (get_in es x)) ≡ cond c (Some s) (cond b (Some e.state) (get_in es x))
     other true true p q n = absurd (n (eqb-true e.id x p ∙ sym (eqb-true id x q)))
     other true false p q n = refl
     other false c p q n = refl
 
-    go : (b : Bool) → eqb e.id id ≡ b → get_in (insert_in es id s) x ≡ cond (eqb id x) (Occupied s) (get_in es x) → get_in (cond b (record { id = id; state = s } ∷ es) (e ∷ insert_in es id s)) x ≡ cond (eqb id x) (Occupied s) (cond (eqb e.id x) (Occupied e.state) (get_in es x))
+    go : (b : Bool) → eqb e.id id ≡ b → get_in (insert_in es id s) x ≡ cond (eqb id x) (Some s) (get_in es x) → get_in (cond b (record { id = id; state = s } ∷ es) (e ∷ insert_in es id s)) x ≡ cond (eqb id x) (Some s) (cond (eqb e.id x) (Some e.state) (get_in es x))
     go true p rest = same (eqb id x) refl (eqb-true e.id id p)
     go false p rest = rw rest (other (eqb e.id x) (eqb id x) refl refl (eqb-false e.id id p))
 
@@ -53,10 +51,10 @@ insert_distinct (e ∷ es) id s u = go (eqb e.id id) refl (insert_distinct es id
 
 -- ---- an id that has an entry, and one that has none
 module _ (d : Entry) (id : ℕ) where
-  first_other : (x : Entry) (es : List Entry) {s : AreaState} → get_in es x.id ≡ Vacant → get_in es id ≡ Occupied s → eqb x.id id ≡ false
-  first_other x es v o = ne_eqb x.id id (λ p. occupied_vacant (sym o ∙ rw p at v))
+  first_other : (x : Entry) (es : List Entry) {s : AreaState} → get_in es x.id ≡ None → get_in es id ≡ Some s → eqb x.id id ≡ false
+  first_other x es v o = ne_eqb x.id id (λ p. some_none (sym o ∙ rw p at v))
 
-  get_at : (es : List Entry) (k : ℕ) → Distinct es → k < length es → (get_or es k d).id ≡ id → get_in es id ≡ Occupied (get_or es k d).state
+  get_at : (es : List Entry) (k : ℕ) → Distinct es → k < length es → (get_or es k d).id ≡ id → get_in es id ≡ Some (get_or es k d).state
   unfolding Distinct get_in
   get_at [] k u h e = absurd (omega arith)
   get_at (x ∷ es) zero u h e = rw (eq-eqb x.id id e)
@@ -64,7 +62,7 @@ module _ (d : Entry) (id : ℕ) where
       let r = get_at es k u.1 (omega arith) e in
       rw (first_other x es u.0 r) r
 
-  get_none : (es : List Entry) → ((i : ℕ) → i < length es → (get_or es i d).id ≡ id → ⊥) → get_in es id ≡ Vacant
+  get_none : (es : List Entry) → ((i : ℕ) → i < length es → (get_or es i d).id ≡ id → ⊥) → get_in es id ≡ None
   unfolding get_in
   get_none [] n = refl
   get_none (x ∷ es) n = rw (ne_eqb x.id id (n 0 (omega arith))) (get_none es (λ i h. n (suc i) (omega arith)))
@@ -77,13 +75,13 @@ module _ (d : Entry) (id : ℕ) where
     insert_at_lem (x ∷ es) (suc k) u h e =
         rw (first_other x es u.0 (get_at es k u.1 (omega arith) e)) (ap (◌∷◌ x) (insert_at_lem es k u.1 (omega arith) e))
 
-insert_none : (es : List Entry) (id : ℕ) (s : AreaState) → get_in es id ≡ Vacant → insert_in es id s ≡ es ++ record { id = id; state = s } ∷ []
+insert_none : (es : List Entry) (id : ℕ) (s : AreaState) → get_in es id ≡ None → insert_in es id s ≡ es ++ record { id = id; state = s } ∷ []
 unfolding get_in insert_in
 insert_none [] id s v = refl
 insert_none (x ∷ es) id s v = go (eqb x.id id) v (insert_none es id s)
   where
-    go : (b : Bool) → cond b (Occupied x.state) (get_in es id) ≡ Vacant → (get_in es id ≡ Vacant → insert_in es id s ≡ es ++ record { id = id; state = s } ∷ []) → cond b (record { id = id; state = s } ∷ es) (x ∷ insert_in es id s) ≡ x ∷ es ++ record { id = id; state = s } ∷ []
-    go true v rest = absurd (occupied_vacant v)
+    go : (b : Bool) → cond b (Some x.state) (get_in es id) ≡ None → (get_in es id ≡ None → insert_in es id s ≡ es ++ record { id = id; state = s } ∷ []) → cond b (record { id = id; state = s } ∷ es) (x ∷ insert_in es id s) ≡ x ∷ es ++ record { id = id; state = s } ∷ []
+    go true v rest = absurd (some_none v)
     go false v rest = ap (◌∷◌ x) (rest v)
 
 -- ---- distinct ids that all stand in a list are no more than it has: each takes one of it away
@@ -111,11 +109,11 @@ without_other (y ∷ ys) x z n h = go (eqb y x) (eqb y z) refl refl h (without_o
     go false true p q h rest = rw q
     go false false p q h rest = rw q (rest h)
 
-pub distinct_fits : (es : List Entry) (ids : List ℕ) → Distinct es → ((x : ℕ) → (get_in es x ≡ Vacant → ⊥) → elem ids x ≡ true) → length es ≤ length ids
+pub distinct_fits : (es : List Entry) (ids : List ℕ) → Distinct es → ((x : ℕ) → (get_in es x ≡ None → ⊥) → elem ids x ≡ true) → length es ≤ length ids
 unfolding Distinct get_in
 distinct_fits [] ids u all = omega arith
 distinct_fits (e ∷ es) ids u all =
-    let h = without_length ids e.id (all e.id (rw (eq-eqb e.id e.id refl) (λ v. occupied_vacant v))) in
+    let h = without_length ids e.id (all e.id (rw (eq-eqb e.id e.id refl) (λ v. some_none v))) in
     let r = distinct_fits es (without ids e.id) u.1 (λ x n. let d : e.id ≡ x → ⊥ = λ p. n (rw p at u.0) in without_other ids e.id x d (all x (rw (ne_eqb e.id x d) n))) in
     omega arith
 
@@ -186,24 +184,24 @@ module _ (t : Table) (count from id : ℕ) where
   entry_id : (k : ℕ) → k < n → (get_or es k d).id ≡ get_or (take n t.ids) k 0
   entry_id k h = ap (λ (e : Entry). e.id) (entry_get k h) ∙ sym (get_or-take n t.ids k 0 h)
 
-  found_at : (k : ℕ) → found_in t.ids n from id ≡ At k → (k < n) × (k < length es) × ((get_or es k d).id ≡ id)
+  found_at : (k : ℕ) → found_in t.ids n from id ≡ Some k → (k < n) × (k < length es) × ((get_or es k d).id ≡ id)
   found_at k e =
       let (h, p) = nearest_at (take n t.ids) from id k e in
       let l : k < n = omega (arith, held_ids) in
       (l, omega (arith, entries_length t count), entry_id k l ∙ p)
 
-  found_none : found_in t.ids n from id ≡ Nothing → get_in es id ≡ Vacant
+  found_none : found_in t.ids n from id ≡ None → get_in es id ≡ None
   found_none e = get_none d id es (λ i h p. let l : i < n = omega (arith, entries_length t count) in nearest_none (take n t.ids) from id i e (omega (arith, held_ids)) (sym (entry_id i l) ∙ p))
 
   pub entries_get : Distinct (entries_of t count) → held_of t count from id ≡ get_in (entries_of t count) id
   unfolding held_of
   entries_get u = go (found_in t.ids n from id) refl
     where
-      go : (f : Found) → found_in t.ids n from id ≡ f → held_at t f ≡ get_in es id
-      go (At k) e =
+      go : (f : Option ℕ) → found_in t.ids n from id ≡ f → held_at t f ≡ get_in es id
+      go (Some k) e =
           let (h, l, p) = found_at k e in
-          sym (get_at d id es k u l p ∙ ap (λ (e : Entry). Occupied e.state) (entry_get k h))
-      go Nothing e = sym (found_none e)
+          sym (get_at d id es k u l p ∙ ap (λ (e : Entry). Some e.state) (entry_get k h))
+      go None e = sym (found_none e)
 
   module _ (s : AreaState) (u : Distinct (entries_of t count)) where
     abbrev new : Entry
@@ -213,21 +211,21 @@ module _ (t : Table) (count from id : ℕ) where
     unfolding spot_of
     entries_count = go (found_in t.ids n from id) refl
       where
-        go : (f : Found) → found_in t.ids n from id ≡ f → length (insert_in es id s) ≡ cond (ltb (spot_at f n) n) n (spot_at f n + 1)
-        go (At k) e =
+        go : (f : Option ℕ) → found_in t.ids n from id ≡ f → length (insert_in es id s) ≡ cond (ltb (spot_at f n) n) n (spot_at f n + 1)
+        go (Some k) e =
             let (h, l, p) = found_at k e in
             rw (lt-ltb k n h, insert_at_lem d id s es k u l p) (length-set es k new ∙ entries_length t count)
-        go Nothing e = rw (le-ltb n n (omega arith), insert_none es id s (found_none e)) (simp length-append (omega (arith, entries_length t count)))
+        go None e = rw (le-ltb n n (omega arith), insert_none es id s (found_none e)) (simp length-append (omega (arith, entries_length t count)))
 
     pub entries_put : spot_of t count from id < room_of t → entries_of (put_in t (spot_of t count from id) id s) (length (insert_in (entries_of t count) id s)) ≡ insert_in (entries_of t count) id s
     unfolding spot_of
     entries_put = go (found_in t.ids n from id) refl
       where
-        go : (f : Found) → found_in t.ids n from id ≡ f → spot_at f n < room_of t → entries_of (put_in t (spot_at f n) id s) (length (insert_in es id s)) ≡ insert_in es id s
-        go (At k) e r =
+        go : (f : Option ℕ) → found_in t.ids n from id ≡ f → spot_at f n < room_of t → entries_of (put_in t (spot_at f n) id s) (length (insert_in es id s)) ≡ insert_in es id s
+        go (Some k) e r =
             let (h, l, p) = found_at k e in
             let m = length-set es k new ∙ entries_length t count in
             rw (insert_at_lem d id s es k u l p) (put_entries t k id s d (set es k new) r (omega arith) (λ i b o. sym (get_or-set_other es k i new d o ∙ entry_get i (omega arith))) (sym (get_or-set_same es k new d l)))
-        go Nothing e r =
+        go None e r =
             let m : length (es ++ new ∷ []) ≡ n + 1 = simp length-append (omega (arith, entries_length t count)) in
             rw (insert_none es id s (found_none e)) (put_entries t n id s d (es ++ new ∷ []) r (omega arith) (λ i b o. sym (get_or-append es (new ∷ []) d i (omega (arith, entries_length t count)) ∙ entry_get i (omega arith))) (sym (get_or_at es new [] d n (entries_length t count))))

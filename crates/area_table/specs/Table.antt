@@ -1,17 +1,12 @@
 -- `areas` of Areas (memory/mod.rs, line 1200), a map from ids to area states, as the rows of a table: the exact value of each number of it, and below the entries
 -- that it has. A reader needs only the entries. Definitions only.
-use Rattle.std.specs.Prelude.{ℕ, zero, suc, ◌+◌, ◌*◌, ◌/◌, min, ◌≡◌, Bool, true, false, cond, not, List, [], ◌∷◌, eqb, ltb, Float, length, get_or, take, set}
+use Rattle.std.specs.Prelude.{Option, None, Some, ℕ, zero, suc, ◌+◌, ◌*◌, ◌/◌, min, ◌≡◌, Bool, true, false, cond, not, List, [], ◌∷◌, eqb, ltb, Float, length, get_or, take, set}
 use Rattle.std.specs.Float.{nan, binary32}
 use Rattle.std.specs.Float.Ieee.{of_bits}
-use Rattle.tables.specs.declared.Found.{Found}
-use Rattle.tables.specs.declared.Found.TheVariants.{At, Nothing}
 use Rattle.tables.specs.Tables.{nearest, put_at}
 use Rattle.area.specs.declared.PivotPos.{PivotPos}
 use Rattle.area.specs.declared.Size.{Size}
 use Rattle.area.specs.declared.AreaState.{AreaState}
-use Rattle.area_table.specs.declared.Held.{Held}
-use Rattle.area_table.specs.declared.Held.TheVariants.{Vacant, Occupied}
-use Rattle.area_table.specs.declared.Pair.{Pair}
 
 pub record Table : Type 0 where
   pub ids : List ℕ
@@ -33,6 +28,12 @@ size_in held x y = cond (eqb held 0) Size.Absent (Size.Of x y)
 
 unfoldable pub state_in : List ℕ → List Float → ℕ → AreaState
 state_in codes floats k = record { pivot_pos = pivot_pos_in (get_or codes (5 * k) 0) (get_or floats (4 * k) nan) (get_or floats (4 * k + 1) nan); pivot = record { x = get_or codes (5 * k + 1) 0; y = get_or codes (5 * k + 2) 0 }; size = size_in (get_or codes (5 * k + 3) 0) (get_or floats (4 * k + 2) nan) (get_or floats (4 * k + 3) nan); interactable = not (eqb (get_or codes (5 * k + 4) 0) 0) }
+
+-- two floats, and 1 where there are any
+pub record Pair : Type 0 where
+  pub held : ℕ
+  pub x : Float
+  pub y : Float
 
 abbrev pub zeros : Pair
 zeros = record { held = 0; x = of_bits binary32 0; y = of_bits binary32 0 }
@@ -59,21 +60,21 @@ abbrev pub held_in : ℕ → Table → ℕ
 held_in count t = min count (room_of t)
 
 -- ---- where an id stands, and its state
-abbrev pub found_in : List ℕ → ℕ → ℕ → ℕ → Found
+abbrev pub found_in : List ℕ → ℕ → ℕ → ℕ → Option ℕ
 found_in ids n from id = nearest (take n ids) from id
 
-abbrev pub spot_at : Found → ℕ → ℕ
-spot_at (At k) n = k
-spot_at Nothing n = n
+abbrev pub spot_at : Option ℕ → ℕ → ℕ
+spot_at (Some k) n = k
+spot_at None n = n
 
 unfoldable pub spot_of : Table → ℕ → ℕ → ℕ → ℕ
 spot_of t count from id = spot_at (found_in t.ids (held_in count t) from id) (held_in count t)
 
-abbrev pub held_at : Table → Found → Held
-held_at t (At k) = Occupied (state_in t.codes t.floats k)
-held_at t Nothing = Vacant
+abbrev pub held_at : Table → Option ℕ → Option AreaState
+held_at t (Some k) = Some (state_in t.codes t.floats k)
+held_at t None = None
 
-unfoldable pub held_of : Table → ℕ → ℕ → ℕ → Held
+unfoldable pub held_of : Table → ℕ → ℕ → ℕ → Option AreaState
 held_of t count from id = held_at t (found_in t.ids (held_in count t) from id)
 
 -- ---- an id and its state put in row k
@@ -93,9 +94,9 @@ unfoldable pub entries_of : Table → ℕ → List Entry
 entries_of t count = entries_from t 0 (held_in count t)
 
 -- `get` and `insert` of the map, and that no id has two entries
-unfoldable pub get_in : List Entry → ℕ → Held
-get_in [] id = Vacant
-get_in (e ∷ entries) id = cond (eqb e.id id) (Occupied e.state) (get_in entries id)
+unfoldable pub get_in : List Entry → ℕ → Option AreaState
+get_in [] id = None
+get_in (e ∷ entries) id = cond (eqb e.id id) (Some e.state) (get_in entries id)
 
 unfoldable pub insert_in : List Entry → ℕ → AreaState → List Entry
 insert_in [] id s = record { id = id; state = s } ∷ []
@@ -103,7 +104,7 @@ insert_in (e ∷ entries) id s = cond (eqb e.id id) (record { id = id; state = s
 
 unfoldable pub Distinct : List Entry → Type 0
 Distinct [] = Unit {0}
-Distinct (e ∷ entries) = (get_in entries e.id ≡ Vacant) × Distinct entries
+Distinct (e ∷ entries) = (get_in entries e.id ≡ None) × Distinct entries
 
 -- whether a list of ids has an id
 unfoldable pub elem : List ℕ → ℕ → Bool

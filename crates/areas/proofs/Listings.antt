@@ -1,10 +1,12 @@
 -- Laws of the layers of a listing from a row on, as `list` goes over them. Assumes nothing.
-use mathlib.Core.Path.{◌≡◌, refl, sym, ◌∙◌}
+use mathlib.Core.Path.{◌≡◌, refl, sym, ap, ◌∙◌}
 use mathlib.Core.Bool.{Bool, true, false, cond}
 use mathlib.Core.List.{List, [], ◌∷◌, map}
-use Prim.Native.Nat.{ℕ, suc, ◌+◌, ◌*◌, ◌-◌, ◌<◌, ◌≤◌}
+use Prim.Native.Nat.{ℕ, suc, ◌+◌, ◌*◌, ◌-◌, ◌<◌}
 use native.Mathlib.Omega.{arith}
+use lib.Dec.{ltb}
 use lib.ListN.{length, drop, replicate}
+use borrow.Author.Tests.{ltb-true, ltb-false}
 use lib.Seq.{drop-drop}
 use Rattle.refusal.specs.Limits.{layers}
 use Rattle.tables.proofs.Written.{Written, all_written}
@@ -14,8 +16,7 @@ use Rattle.layer_rows.specs.declared.Row.{Row}
 use Rattle.layer_rows.specs.Rows.{held_rows}
 use Rattle.layer_queries.specs.declared.Listing.{Listing}
 use Rattle.layer_queries.specs.Queries.{is_listed}
-use Rattle.area_stack.specs.declared.NextLayer.{NextLayer}
-use Rattle.area_stack.specs.declared.NextLayer.TheVariants.{End, Is}
+use Rattle.std.specs.Prelude.{Option, None, Some}
 use Rattle.area_stack.specs.Stack.{next_layer}
 use Rattle.area_stack.proofs.Rows.{past_held}
 use Rattle.areas.specs.declared.Areas.{Areas}
@@ -27,25 +28,26 @@ layers_in listing rows = map (λ (r : Row). r.layer) (keep (is_listed listing) r
 
 module _ (listing : Listing) where
   -- ---- what `next_layer` says of the rows from k on
-  none_in : (k : ℕ) (rows : List Row) → next_layer listing k rows ≡ End → layers_in listing rows ≡ []
+  none_in : (k : ℕ) (rows : List Row) → next_layer listing k rows ≡ None → layers_in listing rows ≡ []
   unfolding layers_in next_layer keep
   none_in k [] e = refl
   none_in k (r ∷ rows) e = go (is_listed listing r) e (none_in (suc k) rows)
     where
-      go : (b : Bool) → cond b (Is (suc k) r.layer) (next_layer listing (suc k) rows) ≡ End → (next_layer listing (suc k) rows ≡ End → layers_in listing rows ≡ []) → map (λ (r : Row). r.layer) (cond b (r ∷ keep (is_listed listing) rows) (keep (is_listed listing) rows)) ≡ []
+      go : (b : Bool) → cond b (Some (suc k, r.layer)) (next_layer listing (suc k) rows) ≡ None → (next_layer listing (suc k) rows ≡ None → layers_in listing rows ≡ []) → map (λ (r : Row). r.layer) (cond b (r ∷ keep (is_listed listing) rows) (keep (is_listed listing) rows)) ≡ []
       go true e more = cc
       go false e more = more e
 
-  one_in : (k : ℕ) (rows : List Row) (next : ℕ) (layer : LayerId) → next_layer listing k rows ≡ Is next layer → (k < next) × (layers_in listing rows ≡ layer ∷ layers_in listing (drop (next - k) rows))
+  one_in : (k : ℕ) (rows : List Row) (next : ℕ) (layer : LayerId) → next_layer listing k rows ≡ Some (next, layer) → (k < next) × (layers_in listing rows ≡ layer ∷ layers_in listing (drop (next - k) rows))
   unfolding layers_in next_layer keep
   one_in k [] next layer e = let z : ◌≡◌ {A = ℕ} 0 1 = cc in absurd (omega arith)
   one_in k (r ∷ rows) next layer e = go (is_listed listing r) e (one_in (suc k) rows next layer)
     where
-      go : (b : Bool) → cond b (Is (suc k) r.layer) (next_layer listing (suc k) rows) ≡ Is next layer → (next_layer listing (suc k) rows ≡ Is next layer → (suc k < next) × (layers_in listing rows ≡ layer ∷ layers_in listing (drop (next - suc k) rows)))
+      go : (b : Bool) → cond b (Some (suc k, r.layer)) (next_layer listing (suc k) rows) ≡ Some (next, layer) → (next_layer listing (suc k) rows ≡ Some (next, layer) → (suc k < next) × (layers_in listing rows ≡ layer ∷ layers_in listing (drop (next - suc k) rows)))
           → (k < next) × (map (λ (r : Row). r.layer) (cond b (r ∷ keep (is_listed listing) rows) (keep (is_listed listing) rows)) ≡ layer ∷ layers_in listing (drop (next - k) (r ∷ rows)))
       go true e more =
-          let p : suc k ≡ next = cc in
-          let q : r.layer ≡ layer = cc in
+          let same : ◌≡◌ {A = ℕ × LayerId} (suc k, r.layer) (next, layer) = cc in
+          let p : suc k ≡ next = ap (λ (x : ℕ × LayerId). x.0) same in
+          let q : r.layer ≡ layer = ap (λ (x : ℕ × LayerId). x.1) same in
           let one : next - k ≡ 1 = omega arith in
           (omega arith, rw (one, q))
       go false e more =
@@ -53,15 +55,22 @@ module _ (listing : Listing) where
           let one : next - k ≡ suc (next - suc k) = omega arith in
           (omega arith, rw one p)
 
-  pub past_left : (count : ℕ) (w : List ℕ) (k : ℕ) → length w ≡ 8 * layers → layers ≤ k → layers_in listing (drop k (held_rows count w)) ≡ []
-  unfolding layers_in keep
-  past_left count w k e h = rw (past_held count w k _ refl (omega arith))
+  -- where there is one, there is a row
+  pub inside : (count : ℕ) (w : List ℕ) (k : ℕ) (f : Option (ℕ × LayerId)) (one : ℕ × LayerId) → length w ≡ 8 * layers → f ≡ next_layer listing k (drop k (held_rows count w)) → f ≡ Some one → k < layers
+  unfolding next_layer
+  inside count w k f one l e h = go (ltb k layers) refl
+    where
+      go : (b : Bool) → ltb k layers ≡ b → k < layers
+      go true t = ltb-true k layers t
+      go false t =
+          let none : next_layer listing k (drop k (held_rows count w)) ≡ None = rw (past_held count w k _ refl (omega (arith, ltb-false k layers t))) in
+          absurd cc
 
-  module _ (rows : List Row) (k : ℕ) (f : NextLayer) (e : f ≡ next_layer listing k (drop k rows)) where
-    pub none_left : f ≡ End → layers_in listing (drop k rows) ≡ []
+  module _ (rows : List Row) (k : ℕ) (f : Option (ℕ × LayerId)) (e : f ≡ next_layer listing k (drop k rows)) where
+    pub none_left : f ≡ None → layers_in listing (drop k rows) ≡ []
     none_left h = none_in k (drop k rows) (sym e ∙ h)
 
-    pub one_left : (next : ℕ) (layer : LayerId) → f ≡ Is next layer → (k < next) × (layers_in listing (drop k rows) ≡ layer ∷ layers_in listing (drop next rows))
+    pub one_left : (next : ℕ) (layer : LayerId) → f ≡ Some (next, layer) → (k < next) × (layers_in listing (drop k rows) ≡ layer ∷ layers_in listing (drop next rows))
     one_left next layer h =
         let (l, p) = one_in k (drop k rows) next layer (sym e ∙ h) in
         let n : k + (next - k) ≡ next = omega arith in

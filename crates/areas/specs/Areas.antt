@@ -1,6 +1,6 @@
 -- Areas (memory/mod.rs, lines 1199 to 1440): the record by value. What it means in egui's terms is crate `area_maps`; a reader needs only that.
 -- Definitions only.
-use Rattle.std.specs.Prelude.{ℕ, ◌*◌, List, [], ◌∷◌, map, length, replicate}
+use Rattle.std.specs.Prelude.{Option, None, Some, ℕ, ◌*◌, List, [], ◌∷◌, map, length, replicate}
 use Rattle.std.specs.Float.{binary32}
 use Rattle.std.specs.Float.Ieee.{of_bits}
 use Rattle.refusal.specs.Limits.{layers}
@@ -18,8 +18,6 @@ use Rattle.layer_queries.specs.declared.Listing.{Listing}
 use Rattle.layer_queries.specs.declared.Listing.TheVariants.{Children}
 use Rattle.layer_queries.specs.Queries.{is_listed}
 use Rattle.layer_table.specs.Layers.{room_in, to_top, top_refusal, with_sublayer, sublayer_refusal}
-use Rattle.area_table.specs.declared.Held.{Held}
-use Rattle.area_table.specs.declared.Held.TheVariants.{Vacant, Occupied}
 use Rattle.area_table.specs.Table.{Table, table_in}
 use Rattle.area_stack.specs.Stack.{Tables, set_state_refusal, set_state_of, window_state}
 use Rattle.areas.specs.declared.Areas.{Areas}
@@ -80,9 +78,9 @@ no_layers n = record { refusal = n; count = 0; layers = replicate layers no_laye
 unfoldable pub children_answer : Areas → LayerId → Layers
 children_answer a layer = answered listed no_layers (layer_refusal layer) (layers_of a (Children layer))
 
-abbrev pub window_in : LayerId → Held → List Window
-window_in layer Vacant = []
-window_in layer (Occupied s) = record { layer = layer; state = s } ∷ []
+abbrev pub window_in : LayerId → Option AreaState → List Window
+window_in layer None = []
+window_in layer (Some s) = record { layer = layer; state = s } ∷ []
 
 unfoldable pub windows_of : Areas → List Window
 windows_of a = each (λ (r : Row). window_in r.layer (window_state (areas_in a) a.states r)) (stack_of a)

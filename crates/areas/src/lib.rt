@@ -13,7 +13,7 @@ ghost use Rattle.area_stack.specs.Stack.{state_answer, interactable_answer, laye
 ghost use Rattle.areas.specs.Areas.{new_areas, tables_of, state_set, to_top_of, sublayer_set, pass_ended, layers_of, listed, children_answer, windows_of, windows_listed};
 
 use area::AreaState;
-use area_stack::{NextLayer, NextWindow, StateAnswer, next_window};
+use area_stack::StateAnswer;
 use emath::Pos2;
 use layer_queries::{FlagAnswer, LayerAnswer, Listing, OrderingAnswer};
 use layers::LayerId;
@@ -59,6 +59,7 @@ pub struct Windows {
 }
 
 impl Areas {
+    #[tactic(auto, unfolding(crate::specs::Areas::new_areas))]
     pub fn new() -> Areas
         ensures { result ≡ new_areas }
     {
@@ -76,15 +77,11 @@ impl Areas {
     pub fn set_state(mut self, layer: LayerId, state: AreaState) -> Changed
         ensures { result ≡ state_set self layer state }
     {
-        let mut rows = self.rows;
-        let mut ids = self.ids;
-        let mut codes = self.codes;
-        let mut floats = self.floats;
         let r = area_stack::set_state(
-            &mut rows,
-            &mut ids,
-            &mut codes,
-            &mut floats,
+            &mut self.rows,
+            &mut self.ids,
+            &mut self.codes,
+            &mut self.floats,
             self.count,
             self.states,
             layer,
@@ -92,50 +89,46 @@ impl Areas {
         );
         self.count = r.count;
         self.states = r.states;
-        self.rows = rows;
-        self.ids = ids;
-        self.codes = codes;
-        self.floats = floats;
         Changed {
             refusal: r.refusal,
             areas: self,
         }
     }
 
+    #[tactic(auto, using(crate::proofs::Stacks::changed_is), unfolding(crate::specs::Areas::to_top_of))]
     pub fn move_to_top(mut self, layer: LayerId) -> Changed
         ensures { result ≡ to_top_of self layer }
     {
-        let mut rows = self.rows;
-        let r = layer_table::move_to_top(&mut rows, self.count, layer);
+        let count = self.count;
+        let r = layer_table::move_to_top(&mut self.rows, count, layer);
         self.count = r.count;
-        self.rows = rows;
         Changed {
             refusal: r.refusal,
             areas: self,
         }
     }
 
+    #[tactic(auto, using(crate::proofs::Stacks::changed_is), unfolding(crate::specs::Areas::sublayer_set))]
     pub fn set_sublayer(mut self, parent: LayerId, child: LayerId) -> Changed
         ensures { result ≡ sublayer_set self parent child }
     {
-        let mut rows = self.rows;
-        let r = layer_table::set_sublayer(&mut rows, self.count, parent, child);
+        let count = self.count;
+        let r = layer_table::set_sublayer(&mut self.rows, count, parent, child);
         self.count = r.count;
-        self.rows = rows;
         Changed {
             refusal: r.refusal,
             areas: self,
         }
     }
 
+    #[tactic(auto, using(crate::proofs::Stacks::ended_is))]
     pub fn end_pass(mut self) -> Areas
         ensures { result ≡ pass_ended self }
     {
-        let mut rows = self.rows;
-        let n = layer_sort::end_pass(&mut rows, self.count);
+        let count = self.count;
+        let n = layer_sort::end_pass(&mut self.rows, count);
         self.count = n;
         self.placed = n;
-        self.rows = rows;
         self
     }
 
@@ -150,28 +143,19 @@ impl Areas {
     pub fn count(self) -> usize
         ensures { result ≡ held_in self.states (table_in self.ids self.codes self.floats) }
     {
-        let ids = self.ids;
-        let codes = self.codes;
-        let floats = self.floats;
-        area_table::len(&ids, &codes, &floats, self.states)
+        area_table::len(&self.ids, &self.codes, &self.floats, self.states)
     }
 
     pub fn get(self, id: u64) -> StateAnswer
         ensures { result ≡ state_answer id (held_of (table_in self.ids self.codes self.floats) self.states 0 id) }
     {
-        let ids = self.ids;
-        let codes = self.codes;
-        let floats = self.floats;
-        area_stack::get(&ids, &codes, &floats, self.states, id)
+        area_stack::get(&self.ids, &self.codes, &self.floats, self.states, id)
     }
 
     pub fn is_interactable(self, layer: LayerId) -> FlagAnswer
         ensures { result ≡ interactable_answer layer (held_of (table_in self.ids self.codes self.floats) self.states 0 layer.id) }
     {
-        let ids = self.ids;
-        let codes = self.codes;
-        let floats = self.floats;
-        area_stack::is_interactable(&ids, &codes, &floats, self.states, layer)
+        area_stack::is_interactable(&self.ids, &self.codes, &self.floats, self.states, layer)
     }
 
     pub fn compare_order(self, a: LayerId, b: LayerId) -> OrderingAnswer
@@ -184,11 +168,15 @@ impl Areas {
     pub fn layer_id_at(self, pos: Pos2) -> LayerAnswer
         ensures { result ≡ layer_id_at (tables_of self) pos }
     {
-        let rows = self.rows;
-        let ids = self.ids;
-        let codes = self.codes;
-        let floats = self.floats;
-        area_stack::layer_id_at(&rows, &ids, &codes, &floats, self.count, self.states, pos)
+        area_stack::layer_id_at(
+            &self.rows,
+            &self.ids,
+            &self.codes,
+            &self.floats,
+            self.count,
+            self.states,
+            pos,
+        )
     }
 
     pub fn visible_last_frame(self, layer: LayerId) -> FlagAnswer
@@ -223,32 +211,24 @@ impl Areas {
 
     // ---- listings, in stack order
 
+    #[tactic(auto, using(crate::proofs::Listings::inside))]
     fn list(self, listing: Listing) -> Layers
         ensures { result ≡ listed (layers_of self listing) }
     {
         let mut layers = [LayerId { order: 0, id: 0 }; LAYERS];
-        let mut n: usize = 0;
-        let mut from: usize = 0;
-        while from < LAYERS {
-            match area_stack::next_layer(&self.rows, self.count, from, listing) {
-                NextLayer::End => {
-                    return Layers {
-                        refusal: NONE,
-                        count: n,
-                        layers: layers,
-                    };
-                }
-                NextLayer::Is(next, layer) => {
-                    layers[n] = layer;
-                    n += 1;
-                    from = next;
-                }
-            }
+        let mut n = 0;
+        let mut from = 0;
+        while let Some((next, layer)) = area_stack::next_layer(
+            &self.rows, self.count, from, listing,
+        ) {
+            layers[n] = layer;
+            n += 1;
+            from = next;
         }
         Layers {
             refusal: NONE,
             count: n,
-            layers: layers,
+            layers,
         }
     }
 
@@ -264,13 +244,14 @@ impl Areas {
         self.list(Listing::Visible)
     }
 
+    #[tactic(auto, unfolding(crate::specs::Areas::children_answer))]
     pub fn child_layers(self, layer: LayerId) -> Layers
         ensures { result ≡ children_answer self layer }
     {
         let refusal = layer.refusal();
         if refusal != NONE {
             return Layers {
-                refusal: refusal,
+                refusal,
                 count: 0,
                 layers: [LayerId { order: 0, id: 0 }; LAYERS],
             };
@@ -278,41 +259,30 @@ impl Areas {
         self.list(Listing::Children(layer))
     }
 
+    #[tactic(auto, using(crate::proofs::WindowRows::inside))]
     pub fn visible_windows(self) -> Windows
         ensures { result ≡ windows_listed (windows_of self) }
     {
-        let rows = self.rows;
-        let ids = self.ids;
-        let codes = self.codes;
-        let floats = self.floats;
         let blank = Window {
             layer: LayerId { order: 0, id: 0 },
             state: AreaState::new(),
         };
         let mut windows = [blank; LAYERS];
-        let mut n: usize = 0;
-        let mut from: usize = 0;
-        while from < LAYERS {
-            match next_window(&rows, &ids, &codes, &floats, self.count, self.states, from) {
-                NextWindow::End => {
-                    return Windows {
-                        count: n,
-                        windows: windows,
-                    };
-                }
-                NextWindow::Is(next, layer, state) => {
-                    windows[n] = Window {
-                        layer: layer,
-                        state: state,
-                    };
-                    n += 1;
-                    from = next;
-                }
-            }
+        let mut n = 0;
+        let mut from = 0;
+        while let Some((next, layer, state)) = area_stack::next_window(
+            &self.rows,
+            &self.ids,
+            &self.codes,
+            &self.floats,
+            self.count,
+            self.states,
+            from,
+        ) {
+            windows[n] = Window { layer, state };
+            n += 1;
+            from = next;
         }
-        Windows {
-            count: n,
-            windows: windows,
-        }
+        Windows { count: n, windows }
     }
 }

@@ -1,4 +1,3 @@
 -- Laws of the definitions, in the form in which the functions ask for them.
-pub mod Answers
 pub mod Tops
 pub mod Ranks

@@ -40,32 +40,33 @@ module _ (p : Row → Bool) where
     last_all n h = ap (last_of p) (take_all n rows h)
 
 -- ---- the search has left k rows: above them there is none
-abbrev pub Left : (Row → Bool) → List Row → ℕ → Type 0
-Left p rows k = (k ≤ length rows) × (last_of p rows ≡ last_of p (take k rows))
+pub record Left (p : Row → Bool) (rows : List Row) (k : ℕ) : Type 0 where
+  pub below : k ≤ length rows
+  pub same : last_of p rows ≡ last_of p (take k rows)
 
 module _ (p : Row → Bool) (count : ℕ) (w : List ℕ) where
   pub all_left : (n : ℕ) → n ≡ min count (length w / 8) → Left p (held_rows count w) n
   all_left n e =
       let l = held_length count w in
-      (omega (arith, l), sym (last_all p (held_rows count w) n (omega (arith, l))))
+      record { below = omega (arith, l); same = sym (last_all p (held_rows count w) n (omega (arith, l))) }
 
   module _ (k : ℕ) (l : Left p (held_rows count w) k) where
     pub none_left : k ≤ 0 → Nothing ≡ last_of p (held_rows count w)
     none_left h =
         let z : k ≡ 0 = omega arith in
-        sym (l.1 ∙ rw z (last_none p (held_rows count w)))
+        sym (l.same ∙ rw z (last_none p (held_rows count w)))
 
     module _ (h : 0 < k) (d r : Row) (e : r ≡ get_or (held_rows count w) (k - 1) d) (b : Bool) (t : b ≡ p r) where
       below : k - 1 < length (held_rows count w)
-      below = omega (arith, l.0)
+      below = omega (arith, l.below)
 
       here_left : last_of p (held_rows count w) ≡ last_of p (take (k - 1 + 1) (held_rows count w))
       here_left =
           let one : k ≡ k - 1 + 1 = omega arith in
-          l.1 ∙ ap (λ (n : ℕ). last_of p (take n (held_rows count w))) one
+          l.same ∙ ap (λ (n : ℕ). last_of p (take n (held_rows count w))) one
 
       pub last_found : b ≡ true → Is r.layer ≡ last_of p (held_rows count w)
       last_found z = sym (here_left ∙ last_here p (held_rows count w) (k - 1) d below (ap p (sym e) ∙ sym t ∙ z) ∙ ap (λ (x : Row). Is x.layer) (sym e))
 
       pub less_left : b ≡ false → Left p (held_rows count w) (k - 1)
-      less_left z = (omega (arith, below), here_left ∙ last_more p (held_rows count w) (k - 1) d below (ap p (sym e) ∙ sym t ∙ z))
+      less_left z = record { below = omega (arith, below); same = here_left ∙ last_more p (held_rows count w) (k - 1) d below (ap p (sym e) ∙ sym t ∙ z) }

@@ -1,16 +1,19 @@
 // The queries of `Areas` (memory/mod.rs) that ask only the layers, on the rows of crate `layer_rows`.
 #![tactic(auto)]
 
-ghost use Rattle.std.specs.Prelude.{◌≡◌, ◌+◌};
+ghost use Rattle.std.specs.Prelude.{◌≡◌, Bool};
+ghost use Rattle.std.specs.Ordering.{ordering_index};
+ghost use Rattle.layer_rows.specs.declared.Row.{Row};
 ghost use Rattle.refusal.specs.Refusal.{lowest, code_refusal};
 ghost use Rattle.refusal.specs.Limits.{last_order};
 ghost use Rattle.layers.specs.Layers.{layer_refusal};
 ghost use Rattle.layer_rows.specs.Rows.{held_rows, row_of};
-ghost use Rattle.layer_queries.specs.Queries.{is_child_row, is_window_row, is_listed, is_top_row, rank_in, compared, compared_by, ordering_answer, shown_last, is_visible_row, is_sublayer_row, flag_answer, parent_in, last_of, layer_answer};
+ghost use Rattle.layer_queries.specs.Queries.{is_child_row, is_window_row, is_listed, is_top_row, rank_in, compared_by, ordering_answer, shown_last, is_visible_row, is_sublayer_row, flag_answer, parent_in, last_of, layer_answer};
 
 use layer_rows::Row;
 use layers::LayerId;
 use refusal::{LAST_ORDER, NONE};
+use std::cmp::Ordering;
 
 #[derive(Clone, Copy)]
 pub enum FlagAnswer {
@@ -45,43 +48,28 @@ pub enum Listing {
 pub fn is_visible_row(r: Row) -> bool
     ensures { result ≡ is_visible_row r }
 {
-    if r.last != 0 {
-        return true;
-    }
-    r.shown != 0
+    r.last != 0 || r.shown != 0
 }
 
 // Whether the row's layer is a child of a layer.
 pub fn is_child(r: Row, parent: LayerId) -> bool
     ensures { result ≡ is_child_row parent r }
 {
-    if r.parent == 0 {
-        return false;
-    }
-    if r.parent == parent.id {
-        return r.layer.order == parent.order;
-    }
-    false
+    r.parent != 0 && r.parent == parent.id && r.layer.order == parent.order
 }
 
 // Whether it is a layer of an Order, and no sublayer.
 pub fn is_top(order: u64, r: Row) -> bool
     ensures { result ≡ is_top_row order r }
 {
-    if r.layer.order == order {
-        return r.parent == 0;
-    }
-    false
+    r.layer.order == order && r.parent == 0
 }
 
 // egui's windows are the visible layers of Order Middle that are no sublayers.
 pub fn is_window(r: Row) -> bool
     ensures { result ≡ is_window_row r }
 {
-    if is_top(1, r) {
-        return is_visible_row(r);
-    }
-    false
+    is_top(1, r) && is_visible_row(r)
 }
 
 pub fn is_listed(listing: Listing, r: Row) -> bool
@@ -96,34 +84,34 @@ pub fn is_listed(listing: Listing, r: Row) -> bool
 
 // ---- the queries
 
-pub fn visible_last_frame(rows: &[u64], count: usize, layer: LayerId) -> FlagAnswer
-    ensures { result ≡ flag_answer (layer_refusal layer) (shown_last (row_of (held_rows count rows.now) layer)) }
+// What a test says of a layer's row.
+fn flag<F: FnOnce(Row) -> bool>(rows: &[u64], count: usize, layer: LayerId, test: F) -> FlagAnswer
+    requires { F.IsAlwaysCallable test }
+    ensures { (p : Row → Bool) → ((r : Row) (b : Bool) → F.post test r b → b ≡ p r) → result ≡ flag_answer (layer_refusal layer) (p (row_of (held_rows count rows.now) layer)) }
 {
     let refusal = layer.refusal();
     if refusal != NONE {
         return FlagAnswer::Refused(refusal);
     }
-    FlagAnswer::Is(layer_rows::row_of(rows, count, layer).last != 0)
+    FlagAnswer::Is(test(layer_rows::row_of(rows, count, layer)))
+}
+
+pub fn visible_last_frame(rows: &[u64], count: usize, layer: LayerId) -> FlagAnswer
+    ensures { result ≡ flag_answer (layer_refusal layer) (shown_last (row_of (held_rows count rows.now) layer)) }
+{
+    flag(rows, count, layer, |r| r.last != 0)
 }
 
 pub fn is_visible(rows: &[u64], count: usize, layer: LayerId) -> FlagAnswer
     ensures { result ≡ flag_answer (layer_refusal layer) (is_visible_row (row_of (held_rows count rows.now) layer)) }
 {
-    let refusal = layer.refusal();
-    if refusal != NONE {
-        return FlagAnswer::Refused(refusal);
-    }
-    FlagAnswer::Is(is_visible_row(layer_rows::row_of(rows, count, layer)))
+    flag(rows, count, layer, is_visible_row)
 }
 
 pub fn is_sublayer(rows: &[u64], count: usize, layer: LayerId) -> FlagAnswer
     ensures { result ≡ flag_answer (layer_refusal layer) (is_sublayer_row (row_of (held_rows count rows.now) layer)) }
 {
-    let refusal = layer.refusal();
-    if refusal != NONE {
-        return FlagAnswer::Refused(refusal);
-    }
-    FlagAnswer::Is(layer_rows::row_of(rows, count, layer).parent != 0)
+    flag(rows, count, layer, |r| r.parent != 0)
 }
 
 // The parent of a row's layer has its Order.
@@ -150,16 +138,14 @@ pub fn parent_layer(rows: &[u64], count: usize, layer: LayerId) -> LayerAnswer
 }
 
 // The last layer of an Order that is no sublayer.
+#[tactic(auto, using(crate::proofs::Tops::none_left))]
 fn top(rows: &[u64], count: usize, order: u64) -> LayerAnswer
     ensures { result ≡ last_of (is_top_row order) (held_rows count rows.now) }
 {
-    let mut k = layer_rows::held(rows, count);
-    while 0 < k {
-        k -= 1;
+    for k in (0..layer_rows::held(rows, count)).rev() {
         let r = layer_rows::row_at(rows, count, k, LayerId { order: 0, id: 0 });
         if is_top(order, r) {
-            let layer = r.layer;
-            return LayerAnswer::Is(layer);
+            return LayerAnswer::Is(r.layer);
         }
     }
     LayerAnswer::Nothing
@@ -176,6 +162,7 @@ pub fn top_layer_id(rows: &[u64], count: usize, order: u64) -> LayerAnswer
 }
 
 // 0 for a layer without a place, and one more than its place for the others.
+#[tactic(auto, using(crate::proofs::Ranks::has_place, crate::proofs::Ranks::no_place))]
 fn rank(rows: &[u64], placed: usize, layer: LayerId) -> usize
     ensures { result ≡ rank_in (held_rows placed rows.now) layer }
 {
@@ -186,23 +173,22 @@ fn rank(rows: &[u64], placed: usize, layer: LayerId) -> usize
     0
 }
 
-fn compared(a: u64, b: u64) -> u64
-    ensures { result ≡ compared a b }
+fn code(order: Ordering) -> u64
+    ensures { result ≡ ordering_index order }
 {
-    if a < b {
-        return 0;
+    match order {
+        Ordering::Less => 0,
+        Ordering::Equal => 1,
+        Ordering::Greater => 2,
     }
-    if b < a { 2 } else { 1 }
 }
 
 // `compare_order` of any two layers: it refuses none.
 pub fn by_place(rows: &[u64], placed: usize, a: LayerId, b: LayerId) -> u64
     ensures { result ≡ compared_by (held_rows placed rows.now) a b }
 {
-    if a.order == b.order {
-        return compared(rank(rows, placed, a) as u64, rank(rows, placed, b) as u64);
-    }
-    compared(a.order, b.order)
+    let by_rank = || rank(rows, placed, a).cmp(&rank(rows, placed, b));
+    code(a.order.cmp(&b.order).then_with(by_rank))
 }
 
 // The rows that have a place are the first so many.

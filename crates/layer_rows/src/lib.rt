@@ -2,6 +2,7 @@
 // along by value. A row is eight numbers:
 //     Order and id; whether it was shown this pass, shown the last pass, raised this pass; the id of its parent this pass, which has its Order, or 0;
 //     where its area's state is looked for first; a key, while rows are sorted
+// The table is the caller's and may hold any words, so the flags stay numbers: every word but 0 says yes, and a row that is put back keeps its word.
 #![tactic(auto)]
 
 ghost use Rattle.std.specs.Prelude.{◌≡◌, ◌+◌, ◌*◌, ◌≤◌, min, ◌/◌, length, get_or};
@@ -26,7 +27,7 @@ pub fn new_row(layer: LayerId) -> Row
     ensures { result ≡ new_row layer }
 {
     Row {
-        layer: layer,
+        layer,
         shown: 0,
         last: 0,
         raised: 0,
@@ -58,10 +59,11 @@ fn read(rows: &[u64], k: usize) -> Row
 pub fn held(rows: &[u64], count: usize) -> usize
     ensures { result ≡ min count (length rows.now / 8) }
 {
-    tables::fewer(count, rows.len() / 8)
+    count.min(rows.len() / 8)
 }
 
 // Row k of those held, and past them a new one of the layer.
+#[tactic(auto, using(crate::proofs::Rows::held_get, crate::proofs::Rows::held_past))]
 pub fn row_at(rows: &[u64], count: usize, k: usize, layer: LayerId) -> Row
     ensures { result ≡ get_or (held_rows count rows.now) k (new_row layer) }
 {
@@ -72,6 +74,7 @@ pub fn row_at(rows: &[u64], count: usize, k: usize, layer: LayerId) -> Row
 }
 
 // Puts row k; past the room it changes nothing.
+#[tactic(auto, using(crate::proofs::Rows::put_past))]
 pub fn put_row(rows: &mut [u64], k: usize, r: Row)
     ensures { rows.new ≡ put_at rows.old (8 * k) (words_of r) }
 {
@@ -91,21 +94,21 @@ pub fn put_row(rows: &mut [u64], k: usize, r: Row)
 }
 
 // The place of a layer's row, or how many are held where it has none.
+#[tactic(auto, using(crate::proofs::Rows::spot_over, crate::proofs::Rows::spot_found))]
 pub fn spot(rows: &[u64], count: usize, layer: LayerId) -> usize
     ensures { result ≡ spot_in (held_rows count rows.now) layer }
 {
     let n = held(rows, count);
-    let mut k: usize = 0;
-    while k < n {
+    for k in 0..n {
         if read(rows, k).layer.is(layer) {
             return k;
         }
-        k += 1;
     }
     n
 }
 
 // What is held of a layer.
+#[tactic(auto, unfolding(crate::specs::Rows::row_of))]
 pub fn row_of(rows: &[u64], count: usize, layer: LayerId) -> Row
     ensures { result ≡ row_of (held_rows count rows.now) layer }
 {

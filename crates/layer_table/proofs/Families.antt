@@ -7,15 +7,10 @@ use native.Mathlib.Numerals.{add-one}
 use native.Mathlib.Omega.{arith}
 use lib.ListN.{length, get_or, drop}
 use lib.Seq.{drop-cons, drop-length}
-use borrow.Author.Tests.{eq-eqb, ne_eqb}
-use Rattle.refusal.specs.Refusal.{none, bad_family}
-use Rattle.layers.specs.declared.LayerId.{LayerId}
 use Rattle.stacking.specs.Lists.{some}
 use Rattle.layer_rows.specs.declared.Row.{Row}
-use Rattle.layer_rows.specs.Rows.{held_rows, row_of}
+use Rattle.layer_rows.specs.Rows.{held_rows}
 use Rattle.layer_rows.proofs.Rows.{held_length}
-use Rattle.layer_queries.specs.Queries.{is_child_row}
-use Rattle.layer_table.specs.Layers.{other_parent, family_refusal}
 
 -- ---- the search has passed the first k rows: none of them is one
 abbrev pub Passed : (Row → Bool) → List Row → ℕ → Type 0
@@ -46,23 +41,3 @@ module _ (p : Row → Bool) (count : ℕ) (w : List ℕ) where
       pub one_passed : b ≡ false → Passed p (held_rows count w) (k + 1)
       unfolding some
       one_passed z = (omega (arith, below), a.1 ∙ rw (drop-cons rows k d below, ← q, ← t, z, add-one))
-
--- ---- the refusal: the child has another parent, or a child of its own, or the parent has a parent
-module _ (rows : List Row) (parent child : LayerId) (r : Row) (b : Bool) (e : r ≡ row_of rows child) (q : b ≡ other_parent r parent.id) where
-  pub second_parent : b ≡ true → bad_family ≡ family_refusal rows parent child
-  unfolding family_refusal
-  second_parent h = rw (← e, ← q, h)
-
-  module _ (h : b ≡ false) (s : Bool) (t : s ≡ some (is_child_row child) rows) where
-    pub has_child : s ≡ true → bad_family ≡ family_refusal rows parent child
-    unfolding family_refusal
-    has_child z = rw (← e, ← q, h, ← t, z)
-
-    module _ (z : s ≡ false) (r' : Row) (d : r' ≡ row_of rows parent) where
-      pub is_child : (r'.parent ≡ 0 → ⊥) → bad_family ≡ family_refusal rows parent child
-      unfolding family_refusal
-      is_child n = rw (← e, ← q, h, ← t, z, ← d, ne_eqb r'.parent 0 n)
-
-      pub fits : r'.parent ≡ 0 → none ≡ family_refusal rows parent child
-      unfolding family_refusal
-      fits y = rw (← e, ← q, h, ← t, z, ← d, eq-eqb r'.parent 0 y)

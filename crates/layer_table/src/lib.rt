@@ -25,7 +25,7 @@ fn with_row(n: usize, k: usize) -> usize
     requires { k < 18446744073709551615 }
     ensures { result ≡ max n (k + 1) }
 {
-    if k < n { n } else { k + 1 }
+    n.max(k + 1)
 }
 
 // There is no room for so many rows.
@@ -38,10 +38,11 @@ pub fn full_refusal(rows: &[u64], n: usize) -> u64
 fn raised(r: Row) -> Row
     ensures { result ≡ raised_row r }
 {
-    let mut s = r;
-    s.shown = 1;
-    s.raised = 1;
-    s
+    Row {
+        shown: 1,
+        raised: 1,
+        ..r
+    }
 }
 
 pub fn move_to_top(rows: &mut [u64], count: usize, layer: LayerId) -> Stacked
@@ -51,10 +52,7 @@ pub fn move_to_top(rows: &mut [u64], count: usize, layer: LayerId) -> Stacked
     let n = with_row(layer_rows::held(rows, count), k);
     let refusal = refusal::lowest(layer.refusal(), full_refusal(rows, n));
     if refusal != NONE {
-        return Stacked {
-            refusal: refusal,
-            count: count,
-        };
+        return Stacked { refusal, count };
     }
     let r = raised(layer_rows::row_at(rows, count, k, layer));
     layer_rows::put_row(rows, k, r);
@@ -70,13 +68,10 @@ pub fn move_to_top(rows: &mut [u64], count: usize, layer: LayerId) -> Stacked
 fn some_child(rows: &[u64], n: usize, layer: LayerId) -> bool
     ensures { result ≡ some (is_child_row layer) (held_rows n rows.now) }
 {
-    let held = layer_rows::held(rows, n);
-    let mut k: usize = 0;
-    while k < held {
+    for k in 0..layer_rows::held(rows, n) {
         if layer_queries::is_child(layer_rows::row_at(rows, n, k, layer), layer) {
             return true;
         }
-        k += 1;
     }
     false
 }
@@ -84,37 +79,32 @@ fn some_child(rows: &[u64], n: usize, layer: LayerId) -> bool
 fn pair_refusal(parent: LayerId, child: LayerId) -> u64
     ensures { result ≡ pair_refusal parent child }
 {
-    if parent.order == child.order {
-        if parent.id != child.id {
-            return NONE;
-        }
+    if parent.order == child.order && parent.id != child.id {
+        NONE
+    } else {
+        BAD_PAIR
     }
-    BAD_PAIR
 }
 
 // Whether a row has another parent.
 fn other_parent(r: Row, parent: u64) -> bool
     ensures { result ≡ other_parent r parent }
 {
-    if r.parent == 0 {
-        return false;
-    }
-    r.parent != parent
+    r.parent != 0 && r.parent != parent
 }
 
+#[tactic(auto, unfolding(crate::specs::Layers::family_refusal))]
 fn family_refusal(rows: &[u64], count: usize, parent: LayerId, child: LayerId) -> u64
     ensures { result ≡ family_refusal (held_rows count rows.now) parent child }
 {
-    if other_parent(layer_rows::row_of(rows, count, child), parent.id) {
-        return BAD_FAMILY;
+    if other_parent(layer_rows::row_of(rows, count, child), parent.id)
+        || some_child(rows, count, child)
+        || layer_rows::row_of(rows, count, parent).parent != 0
+    {
+        BAD_FAMILY
+    } else {
+        NONE
     }
-    if some_child(rows, count, child) {
-        return BAD_FAMILY;
-    }
-    if layer_rows::row_of(rows, count, parent).parent != 0 {
-        return BAD_FAMILY;
-    }
-    NONE
 }
 
 // How many rows there are once both layers have one.
@@ -129,6 +119,7 @@ fn with_both(rows: &[u64], count: usize, parent: LayerId, child: LayerId) -> usi
     with_parent + (with_row(n, layer_rows::spot(rows, count, child)) - n)
 }
 
+#[tactic(auto, unfolding(crate::specs::Layers::sublayer_refusal))]
 fn sublayer_refusal(rows: &[u64], count: usize, parent: LayerId, child: LayerId) -> u64
     ensures { result ≡ sublayer_refusal (room_in rows.now) (held_rows count rows.now) parent child }
 {
@@ -154,9 +145,7 @@ fn enter(rows: &mut [u64], count: usize, layer: LayerId) -> usize
 fn child_of(parent: u64, r: Row) -> Row
     ensures { result ≡ child_row parent r }
 {
-    let mut s = r;
-    s.parent = parent;
-    s
+    Row { parent, ..r }
 }
 
 fn adopt(rows: &mut [u64], count: usize, parent: u64, child: LayerId) -> usize
@@ -175,10 +164,7 @@ pub fn set_sublayer(rows: &mut [u64], count: usize, parent: LayerId, child: Laye
 {
     let refusal = sublayer_refusal(rows, count, parent, child);
     if refusal != NONE {
-        return Stacked {
-            refusal: refusal,
-            count: count,
-        };
+        return Stacked { refusal, count };
     }
     let n = enter(rows, count, parent);
     Stacked {

@@ -6,8 +6,8 @@ use Rattle.refusal.specs.Refusal.{none as notRefused}
 use Rattle.layers.specs.Layers.{layer_refusal}
 use Rattle.layer_queries.specs.declared.FlagAnswer.TheVariants as Flag
 use Rattle.layer_queries.specs.Queries.{flag_answer}
-use Rattle.area_table.specs.declared.Held.{Held}
-use Rattle.area_table.specs.declared.Held.TheVariants.{Vacant, Occupied}
+use Rattle.std.specs.Prelude.{Option, None, Some}
+use Rattle.area.specs.declared.AreaState.{AreaState}
 use Rattle.area_table.specs.Table.{held_of}
 use Rattle.areas.specs.declared.Areas.{Areas}
 use Rattle.areas.specs.Areas.{stack_of, areas_in, layers_of}
@@ -75,9 +75,9 @@ module _ (m : Memory) where
     abbrev a : Areas
     a = areas_of m
 
-    rect : (h : Held) → rect_in h ≡ rect_answer (Egui.rect_in h)
-    rect Vacant = refl
-    rect (Occupied s) = refl
+    rect : (h : Option AreaState) → rect_in h ≡ rect_answer (Egui.rect_in h)
+    rect None = refl
+    rect (Some s) = refl
 
     state : (id : ℕ) → held_of (areas_in a) a.states 0 id ≡ EguiAreas.get e.areas id
     state id = query_get a.placed (stack_of a) (entries_in a) fit.sound.sound (areas_in a) a.states refl 0 id

@@ -10,8 +10,6 @@ use Rattle.input.specs.declared.EventFilter.{EventFilter}
 use Rattle.layers.specs.declared.LayerId.{LayerId}
 use Rattle.layer_queries.specs.declared.LayerAnswer.{LayerAnswer}
 use Rattle.layer_queries.specs.declared.LayerAnswer.TheVariants as LayerAnswer
-use Rattle.area_table.specs.declared.Held.{Held}
-use Rattle.area_table.specs.declared.Held.TheVariants.{Vacant, Occupied}
 use Rattle.search.specs.declared.Candidate.{Candidate}
 use Rattle.focus_rules.specs.declared.FocusWidget.TheVariants.{Absent}
 use Rattle.area_maps.specs.Egui as Areas
@@ -75,9 +73,9 @@ position_in None id = None
 position_in (Some state) id = cond (state.id == id) state.pos None
 
 -- `.map(|state| state.rect())`
-abbrev pub rect_in : Held → Option Rect
-rect_in Vacant = None
-rect_in (Occupied state) = Some (rect_of state)
+abbrev pub rect_in : Option AreaState → Option Rect
+rect_in None = None
+rect_in (Some state) = Some (rect_of state)
 
 module _ (m : Memory) where
   -- ---- one field anew, the others as they are

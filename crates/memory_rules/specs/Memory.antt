@@ -1,9 +1,10 @@
 -- Memory (memory/mod.rs, lines 786 to 1187): what each call leaves and answers, in the Rust's order but for a definition that another needs, by the definitions of its Focus and Areas, with document 01's refusals. Definitions only.
-use Rattle.std.specs.Prelude.{ℕ, Bool, true, false, not, cond, ◌&&◌, ◌||◌, List, eqb, ltb, replicate}
+use Rattle.std.specs.Prelude.{Option, None, Some, ℕ, Bool, true, false, not, cond, ◌&&◌, ◌||◌, List, eqb, ltb, replicate}
 use Rattle.refusal.specs.Refusal.{none, lowest, id_refusal, answered, kept}
 use Rattle.refusal.specs.Limits.{used as usedLimit}
 use Rattle.emath.specs.declared.Pos2.{Pos2}
 use Rattle.emath.specs.Rect.{everything}
+use Rattle.area.specs.declared.AreaState.{AreaState}
 use Rattle.area.specs.Area.{rect_of}
 use Rattle.input.specs.declared.Event.{Event}
 use Rattle.input.specs.declared.EventFilter.{EventFilter}
@@ -14,8 +15,6 @@ use Rattle.layer_queries.specs.declared.FlagAnswer.{FlagAnswer}
 use Rattle.layer_queries.specs.declared.LayerAnswer.{LayerAnswer}
 use Rattle.layer_queries.specs.declared.LayerAnswer.TheVariants as Layer
 use Rattle.layer_queries.specs.Queries.{compared_by, flag_answer}
-use Rattle.area_table.specs.declared.Held.{Held}
-use Rattle.area_table.specs.declared.Held.TheVariants.{Vacant, Occupied}
 use Rattle.area_table.specs.Table.{held_of}
 use Rattle.areas.specs.declared.Areas.{Areas}
 use Rattle.areas.specs.Areas.{tables_of, pass_ended}
@@ -158,9 +157,9 @@ emptied a = record { count = 0; placed = 0; states = 0; rows = a.rows; ids = a.i
 abbrev pub areas_reset : Memory → Memory
 areas_reset m = with_areas m (emptied (areas_of m))
 
-abbrev pub rect_in : Held → AreaRectAnswer
-rect_in Vacant = AreaRect.Nothing
-rect_in (Occupied s) = AreaRect.Is (rect_of s)
+abbrev pub rect_in : Option AreaState → AreaRectAnswer
+rect_in None = AreaRect.Nothing
+rect_in (Some s) = AreaRect.Is (rect_of s)
 
 unfoldable pub area_rect : Memory → ℕ → AreaRectAnswer
 area_rect m id = let a = areas_of m in answered rect_in AreaRect.Refused (id_refusal id) (held_of (mapOf a) a.states 0 id)

@@ -12,7 +12,6 @@ ghost use Rattle.memory_rules.specs.Memory.{unless_below, layer_id_at, area_rect
 ghost use Rattle.memory_rules.specs.Calls.{with_stack};
 
 use area::AreaState;
-use area_table::Held;
 use emath::Pos2;
 use layer_queries::LayerAnswer;
 use layers::LayerId;
@@ -62,8 +61,8 @@ pub fn area_rect(
         return AreaRectAnswer::Refused(refusal);
     }
     match area_table::get(ids, codes, floats, fields.states, 0, id) {
-        Held::Vacant => AreaRectAnswer::Nothing,
-        Held::Occupied(s) => AreaRectAnswer::Is(s.rect_unchecked()),
+        None => AreaRectAnswer::Nothing,
+        Some(s) => AreaRectAnswer::Is(s.rect_unchecked()),
     }
 }
 

@@ -7,6 +7,3 @@ use Rattle.area_stack.proofs.layer_id_at.Given as goal
 
 abbrev pub invariant-loop-k : goal.invariant-loop-k
 invariant-loop-k l = Left (hit_row (table_in l.ids l.codes l.floats) l.states l.pos) (held_rows l.count l.rows) l.k
-
-abbrev pub decreases-loop-k : goal.decreases-loop-k
-decreases-loop-k l = l.k

@@ -1,16 +1,12 @@
-use mathlib.Core.Path.{refl}
+use native.Mathlib.Omega.{arith}
 use Rattle.area_stack.proofs.Listings.{none_found, one_found, one_passed}
 use Rattle.area_stack.proofs.next_layer.Goals as goal
 
-pub loop-k-init : goal.loop-k-init
-loop-k-init c = refl
-
 pub returns-then-is_listed : goal.returns-then-is_listed
-returns-then-is_listed c = search one_found
+returns-then-is_listed c = one_found _ _ _ _ _ _ c.loop-k.invariant c.held-k-end.ensures (omega arith) _ _ c.row_at-r.ensures _ c.is_listed.ensures c.if-is_listed.true
 
 pub loop-k-preserved : goal.loop-k-preserved
-loop-k-preserved c =
-    one_passed _ _ _ _ _ _ c.loop-k.invariant c.held.ensures c.loop-k-test.true _ _ c.row_at-r.ensures _ c.is_listed.ensures c.if-is_listed.false
+loop-k-preserved c = one_passed _ _ _ _ _ _ c.loop-k.invariant c.held-k-end.ensures (omega arith) _ _ c.row_at-r.ensures _ c.is_listed.ensures c.if-is_listed.false
 
 pub returns : goal.returns
-returns c = search none_found
+returns c = none_found _ _ _ _ _ _ c.loop-k.invariant c.held-k-end.ensures (omega arith)

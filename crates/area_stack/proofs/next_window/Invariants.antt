@@ -1,6 +1,4 @@
 -- `area_stack::next_window` meets its contract. The invariant: the rows passed are no windows with a state. Assumes nothing.
-use Prim.Native.Nat.{◌-◌, ◌/◌, min}
-use lib.ListN.{length}
 use Rattle.area_table.specs.Table.{table_in}
 use Rattle.layer_rows.specs.Rows.{held_rows}
 use Rattle.area_stack.proofs.WindowRows.{Passed}
@@ -8,6 +6,3 @@ use Rattle.area_stack.proofs.next_window.Given as goal
 
 abbrev pub invariant-loop-k : goal.invariant-loop-k
 invariant-loop-k l = Passed (table_in l.ids l.codes l.floats) l.states (held_rows l.count l.rows) l.from l.k
-
-abbrev pub decreases-loop-k : goal.decreases-loop-k
-decreases-loop-k l = min l.count (length l.rows / 8) - l.k

@@ -1,5 +1,5 @@
 -- `area_table::put` meets its contract. Assumes nothing.
-use Rattle.area_table.proofs.Places.{row_fits, put_fits, put_past}
+use Rattle.area_table.proofs.Places.{row_fits, put_fits}
 use native.Mathlib.Omega.{arith}
 use Rattle.area_table.proofs.put.Goals as goal
 
@@ -14,6 +14,3 @@ put_state-requires c = let f = row_fits _ _ _ c.if-k-room.true c.room.ensures in
 
 pub returns-then-k-room : goal.returns-then-k-room
 returns-then-k-room c = put_fits _ _ _ _ _ c.room.ensures _ _ c.if-k-room.true c.put_state.ensures
-
-pub returns-else-k-room : goal.returns-else-k-room
-returns-else-k-room c = search put_past

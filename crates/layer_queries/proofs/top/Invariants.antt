@@ -6,6 +6,3 @@ use Rattle.layer_queries.proofs.top.Given as goal
 
 abbrev pub invariant-loop-k : goal.invariant-loop-k
 invariant-loop-k l = Left (is_top_row l.order) (held_rows l.count l.rows) l.k
-
-abbrev pub decreases-loop-k : goal.decreases-loop-k
-decreases-loop-k l = l.k

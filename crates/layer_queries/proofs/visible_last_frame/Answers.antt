@@ -1,12 +1,7 @@
 -- `layer_queries::visible_last_frame` meets its contract. Assumes nothing.
-use Rattle.layer_queries.specs.declared.FlagAnswer.TheVariants.{Is, Refused}
-use Rattle.refusal.proofs.Laws.{turned_away_lem}
+use Rattle.std.proofs.Common.{rules}
 use Rattle.layer_queries.specs.Queries.{shown_last}
-use Rattle.layer_queries.proofs.Answers.{told}
 use Rattle.layer_queries.proofs.visible_last_frame.Goals as goal
 
-pub returns-then-refusal-ne-NONE : goal.returns-then-refusal-ne-NONE
-returns-then-refusal-ne-NONE c = search (turned_away_lem Is Refused)
-
 pub returns : goal.returns
-returns c = search (told shown_last Is Refused)
+returns c = c.flag.ensures shown_last (λ r b e. search rules)

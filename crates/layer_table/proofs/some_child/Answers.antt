@@ -1,15 +1,12 @@
-use Rattle.layer_table.proofs.Families.{none_passed, none_found, one_found, one_passed}
+use native.Mathlib.Omega.{arith}
+use Rattle.layer_table.proofs.Families.{none_found, one_found, one_passed}
 use Rattle.layer_table.proofs.some_child.Goals as goal
 
-pub loop-k-init : goal.loop-k-init
-loop-k-init c = none_passed _ _ _
-
 pub returns-then-is_child : goal.returns-then-is_child
-returns-then-is_child c = search one_found
+returns-then-is_child c = one_found _ _ _ _ _ c.held-k-end.ensures c.loop-k.invariant (omega arith) _ _ c.row_at.ensures _ c.is_child.ensures c.if-is_child.true
 
 pub loop-k-preserved : goal.loop-k-preserved
-loop-k-preserved c =
-    one_passed _ _ _ _ _ c.held-held.ensures c.loop-k.invariant c.loop-k-test.true _ _ c.row_at.ensures _ c.is_child.ensures c.if-is_child.false
+loop-k-preserved c = one_passed _ _ _ _ _ c.held-k-end.ensures c.loop-k.invariant (omega arith) _ _ c.row_at.ensures _ c.is_child.ensures c.if-is_child.false
 
 pub returns : goal.returns
-returns c = search none_found
+returns c = none_found _ _ _ _ _ c.held-k-end.ensures c.loop-k.invariant (omega arith)

@@ -1,5 +1,4 @@
 -- `layer_table::some_child` meets its contract. The invariant: none of the rows passed is one. Assumes nothing.
-use Prim.Native.Nat.{◌-◌}
 use Rattle.layer_rows.specs.Rows.{held_rows}
 use Rattle.layer_queries.specs.Queries.{is_child_row}
 use Rattle.layer_table.proofs.Families.{Passed}
@@ -7,6 +6,3 @@ use Rattle.layer_table.proofs.some_child.Given as goal
 
 abbrev pub invariant-loop-k : goal.invariant-loop-k
 invariant-loop-k l = Passed (is_child_row l.layer) (held_rows l.n l.rows) l.k
-
-abbrev pub decreases-loop-k : goal.decreases-loop-k
-decreases-loop-k l = l.held - l.k

@@ -1,31 +1,23 @@
 use mathlib.Core.Path.{refl}
 use native.Mathlib.Omega.{arith}
 use borrow.Author.Rules.{rules}
-use Rattle.tables.proofs.Written.{none_written, same_long, write}
-use Rattle.areas.proofs.Listings.{past_left, none_left, one_left, all_listed}
+use Rattle.tables.proofs.Written.{none_written, write}
+use Rattle.areas.proofs.Listings.{inside, none_left, one_left, all_listed}
 use Rattle.areas.proofs.Areas.list.Goals as goal
 
-pub loop-from-init : goal.loop-from-init
-loop-from-init c = (search rules, omega arith, none_written _ _ _ refl)
+pub loop-next-init : goal.loop-next-init
+loop-next-init c = (search rules, omega arith, none_written _ _ _ refl)
 
-pub returns-in-End : goal.returns-in-End
-returns-in-End c =
-    all_listed _ _ _ _ _ c.loop-from.invariant.2 (none_left _ _ _ _ c.next_layer.ensures c.in-End.is)
-
-pub bounds-layers-n : goal.bounds-layers-n
-bounds-layers-n c =
-    let l = same_long _ _ _ _ _ c.loop-from.invariant.2 in
+pub loop-next-smaller : goal.loop-next-smaller
+loop-next-smaller c =
+    let l = inside _ _ _ _ _ _ c.loop-next.invariant.0 c.next_layer.ensures c.in-Some.is in
+    let (m, e) = one_left _ _ _ _ c.next_layer.ensures _ _ c.in-Some.is in
     omega arith
 
-pub loop-from-smaller : goal.loop-from-smaller
-loop-from-smaller c =
-    let (l, e) = one_left _ _ _ _ c.next_layer.ensures _ _ c.in-Is.is in
-    omega arith
-
-pub loop-from-preserved : goal.loop-from-preserved
-loop-from-preserved c =
-    let (l, e) = one_left _ _ _ _ c.next_layer.ensures _ _ c.in-Is.is in
-    (c.loop-from.invariant.0, omega arith, write _ _ _ _ _ c.loop-from.invariant.2 _ _ e)
+pub loop-next-preserved : goal.loop-next-preserved
+loop-next-preserved c =
+    let (l, e) = one_left _ _ _ _ c.next_layer.ensures _ _ c.in-Some.is in
+    (c.loop-next.invariant.0, omega arith, write _ _ _ _ _ c.loop-next.invariant.2 _ _ e)
 
 pub returns : goal.returns
-returns c = all_listed _ _ _ _ _ c.loop-from.invariant.2 (past_left _ _ _ _ c.loop-from.invariant.0 c.loop-from-test.false)
+returns c = all_listed _ _ _ _ _ c.loop-next.invariant.2 (none_left _ _ _ _ c.next_layer.ensures c.in_default.is)

@@ -10,10 +10,10 @@ use Rattle.areas.specs.Areas.{no_window}
 use Rattle.areas.proofs.WindowRows.{windows_in}
 use Rattle.areas.proofs.Areas.visible_windows.Given as goal
 
-abbrev pub invariant-loop-from : goal.invariant-loop-from
-invariant-loop-from l = let stack = held_rows l.self.count l.rows in
-    let list = windows_in (table_in l.ids l.codes l.floats) l.self.states in
-    (length l.rows ≡ 8 * layers) × (l.n ≤ l.from) × Written (replicate layers no_window) (list stack) (list (drop l.from stack)) l.windows l.n
+abbrev pub invariant-loop-next : goal.invariant-loop-next
+invariant-loop-next l = let stack = held_rows l.self.count l.self.rows in
+    let list = windows_in (table_in l.self.ids l.self.codes l.self.floats) l.self.states in
+    (length l.self.rows ≡ 8 * layers) × (l.n ≤ l.from) × Written (replicate layers no_window) (list stack) (list (drop l.from stack)) l.windows l.n
 
-abbrev pub decreases-loop-from : goal.decreases-loop-from
-decreases-loop-from l = layers - l.from
+abbrev pub decreases-loop-next : goal.decreases-loop-next
+decreases-loop-next l = layers - l.from
