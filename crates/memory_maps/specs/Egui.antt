@@ -11,7 +11,6 @@ use Rattle.layers.specs.declared.LayerId.{LayerId}
 use Rattle.layer_queries.specs.declared.LayerAnswer.{LayerAnswer}
 use Rattle.layer_queries.specs.declared.LayerAnswer.TheVariants as LayerAnswer
 use Rattle.search.specs.declared.Candidate.{Candidate}
-use Rattle.focus_rules.specs.declared.FocusWidget.TheVariants.{Absent}
 use Rattle.area_maps.specs.Egui as Areas
 use Rattle.focus_maps.specs.Egui as Focus
 
@@ -185,7 +184,7 @@ module _ (m : Memory) where
   set_modal_layer layer = cond (is_less_than m.focus.top_modal_layer_current_frame layer) m (with_focus m (Focus.set_modal_layer m.focus layer))
 
   abbrev pub stop_text_input : Memory
-  stop_text_input = with_focus m (Focus.with_widget m.focus Absent)
+  stop_text_input = with_focus m (Focus.with_widget m.focus None)
 
   -- ---- the areas (lines 1032 to 1044); the calls on `areas_mut()` are those of Areas
   abbrev pub reset_areas : Memory
