@@ -14,7 +14,6 @@ pub mod popups;
 
 use areas::Areas;
 use focus::{Events, Focus, Used};
-use focus_rules::IdAnswer;
 use input::EventFilter;
 use layer_queries::{FlagAnswer, LayerAnswer};
 use layers::LayerId;
@@ -215,7 +214,7 @@ pub fn top_modal_layer(m: Memory) -> LayerAnswer
 
 // ---- the focus
 
-pub fn focused(m: Memory) -> IdAnswer
+pub fn focused(m: Memory) -> Option<u64>
     ensures { result ≡ id_or_nothing (nav_of m).focused }
 {
     memory_fields::focused(fields_of(m))

@@ -9,7 +9,6 @@ ghost use Rattle.focus_rules.specs.Rules.{id_or_nothing, layer_or_nothing};
 ghost use Rattle.memory_rules.specs.State.{memory_of, done_of, with_ime, with_everything, nav_of};
 ghost use Rattle.memory_rules.specs.Memory.{of_id, had_focus, has_focus, lost_focus, gained_focus, filter_set, requested, requested_next, surrendered, moved, text_stopped, areas_reset};
 
-use focus_rules::IdAnswer;
 use input::EventFilter;
 use layer_queries::{FlagAnswer, LayerAnswer};
 use memory_rules::{Changed, Fields};
@@ -17,11 +16,10 @@ use refusal::{NONE, ZERO_ID};
 
 // ---- queries
 
-pub fn focused(fields: Fields) -> IdAnswer
+pub fn focused(fields: Fields) -> Option<u64>
     ensures { (rows : List ℕ) (map : Table) (cache : Cache) → result ≡ id_or_nothing (nav_of (memory_of fields rows map cache)).focused }
 {
-    let nav = fields.nav;
-    focus_calls::focused(nav)
+    focus_calls::focused(fields.nav)
 }
 
 pub fn had_focus_last_frame(fields: Fields, id: u64) -> FlagAnswer

@@ -2,7 +2,7 @@
 use Rattle.std.specs.Prelude.{◌≡◌, ℕ, min, Bool, true, false, cond, not, ◌&&◌, ◌||◌, eqb, ltb, List, [], ◌∷◌, take}
 use mathlib.Core.Path.{refl, sym, ap, ◌∙◌}
 use mathlib.Core.Bool.{true≢false}
-use mathlib.Core.Option.{none, some}
+use Rattle.std.specs.Prelude.{None, Some}
 use native.Mathlib.Omega.{arith}
 use lib.Seq.{take-take}
 use Rattle.emath.specs.declared.Pos2.{Pos2}
@@ -113,7 +113,7 @@ module _ (m : Memory) (s : Sound (areas_of m).placed (stack_of (areas_of m)) (en
       modal : LayerId
       modal = (nav_of m).top_modal_layer
 
-      go : (b : Bool) → (b || not (is_below m layer modal)) ≡ Egui.is_above (meaning_of m) (cond b none (some modal)) layer
+      go : (b : Bool) → (b || not (is_below m layer modal)) ≡ Egui.is_above (meaning_of m) (cond b None (Some modal)) layer
       go true = refl
       go false = ap not (below_means layer modal) ∙ at_least (Areas.meaning_of a) layer modal
 
@@ -127,7 +127,7 @@ module _ (m : Memory) (s : Sound (areas_of m).placed (stack_of (areas_of m)) (en
       current : LayerId
       current = (nav_of m).top_modal_layer_current_frame
 
-      go : (b : Bool) → (not b && is_below m layer current) ≡ Egui.is_less_than (meaning_of m) (cond b none (some current)) layer
+      go : (b : Bool) → (not b && is_below m layer current) ≡ Egui.is_less_than (meaning_of m) (cond b None (Some current)) layer
       go true = refl
       go false = below_means layer current
 
@@ -135,7 +135,7 @@ module _ (m : Memory) (s : Sound (areas_of m).placed (stack_of (areas_of m)) (en
   unfolding layer_id_at areasLayerIdAt
   hit_means pos = ap (unless_below m) (query_hit a.placed (stack_of a) (entries_in a) s (areas_in a) a.states refl pos) ∙ go (EguiAreas.layer_id_at (Areas.meaning_of a) pos) (hit_answers (Areas.meaning_of a) pos)
     where
-      or_modal : (b : Bool) (layer : LayerId) → cond b (LayerAnswer.Is layer) (layer_or_nothing (nav_of m).top_modal_layer) ≡ layer_answer_of (cond b (some layer) (layer_option (nav_of m).top_modal_layer))
+      or_modal : (b : Bool) (layer : LayerId) → cond b (LayerAnswer.Is layer) (layer_or_nothing (nav_of m).top_modal_layer) ≡ layer_answer_of (cond b (Some layer) (layer_option (nav_of m).top_modal_layer))
       or_modal true layer = refl
       or_modal false layer = layer_answer_lem (nav_of m).top_modal_layer
 

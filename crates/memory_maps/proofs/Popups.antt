@@ -1,7 +1,7 @@
 -- What the numbers of the popup say in egui's terms, test by test and call by call. Assumes nothing.
 use Rattle.std.specs.Prelude.{◌≡◌, ℕ, Bool, true, false, cond, not, ◌&&◌, eqb}
 use mathlib.Core.Path.{refl, sym, ap, ◌∙◌}
-use mathlib.Core.Option.{none, some}
+use Rattle.std.specs.Prelude.{None, Some}
 use borrow.Author.Tests.{eqb-true, eqb-false, ne_eqb}
 use Rattle.memory_rules.specs.declared.Popup.{Popup}
 use Rattle.memory_rules.specs.declared.PopupPos.{PopupPos}
@@ -16,32 +16,32 @@ use Rattle.memory_maps.specs.Answers.{position_of}
 module _ (p : Popup) where
   -- the popup, where there is one
   abbrev it : Egui.OpenPopup
-  it = record { id = p.id; pos = cond p.has_pos (some p.pos) none; open_this_frame = p.open_this_frame }
+  it = record { id = p.id; pos = cond p.has_pos (Some p.pos) None; open_this_frame = p.open_this_frame }
 
   -- ---- the tests
   pub some_means : not (eqb p.id 0) ≡ Egui.is_some (popup_meaning p)
   some_means = go (eqb p.id 0)
     where
-      go : (b : Bool) → not b ≡ Egui.is_some (cond b none (some it))
+      go : (b : Bool) → not b ≡ Egui.is_some (cond b None (Some it))
       go true = refl
       go false = refl
 
   pub same_means : (id : ℕ) → eqb id 0 ≡ false → eqb p.id id ≡ Egui.is_some_and_id (popup_meaning p) id
   same_means id h = go (eqb p.id 0) refl
     where
-      go : (b : Bool) → eqb p.id 0 ≡ b → eqb p.id id ≡ Egui.is_some_and_id (cond b none (some it)) id
+      go : (b : Bool) → eqb p.id 0 ≡ b → eqb p.id id ≡ Egui.is_some_and_id (cond b None (Some it)) id
       go true e = ne_eqb p.id id (λ q. eqb-false id 0 h (sym q ∙ eqb-true p.id 0 e))
       go false e = refl
 
   pub position_means : (id : ℕ) → eqb id 0 ≡ false → position_in p id ≡ position_of (Egui.position_in (popup_meaning p) id)
   position_means id h = go (eqb p.id 0) refl
     where
-      pick : (s t : Bool) → cond (s && t) (Position.Is p.pos) Position.Nothing ≡ position_of (cond s (cond t (some p.pos) none) none)
+      pick : (s t : Bool) → cond (s && t) (Position.Is p.pos) Position.Nothing ≡ position_of (cond s (cond t (Some p.pos) None) None)
       pick true true = refl
       pick true false = refl
       pick false t = refl
 
-      go : (b : Bool) → eqb p.id 0 ≡ b → position_in p id ≡ position_of (Egui.position_in (cond b none (some it)) id)
+      go : (b : Bool) → eqb p.id 0 ≡ b → position_in p id ≡ position_of (Egui.position_in (cond b None (Some it)) id)
       go true e = ap (λ (s : Bool). cond (s && p.has_pos) (Position.Is p.pos) Position.Nothing) (ne_eqb p.id id (λ q. eqb-false id 0 h (sym q ∙ eqb-true p.id 0 e)))
       go false e = pick (eqb p.id id) p.has_pos
 
@@ -49,7 +49,7 @@ module _ (p : Popup) where
   pub ended_means : popup_meaning (popup_ended p) ≡ Egui.cleaned_up (popup_meaning p)
   ended_means = go p.open_this_frame (eqb p.id 0) refl refl
     where
-      go : (s b : Bool) → p.open_this_frame ≡ s → eqb p.id 0 ≡ b → popup_meaning (cond s (record { id = p.id; has_pos = p.has_pos; pos = p.pos; open_this_frame = false }) no_popup) ≡ Egui.cleaned_up (cond b none (some it))
+      go : (s b : Bool) → p.open_this_frame ≡ s → eqb p.id 0 ≡ b → popup_meaning (cond s (record { id = p.id; has_pos = p.has_pos; pos = p.pos; open_this_frame = false }) no_popup) ≡ Egui.cleaned_up (cond b None (Some it))
       go true true d e = rw e
       go true false d e = rw (d, e)
       go false true d e = refl
@@ -58,12 +58,12 @@ module _ (p : Popup) where
   pub keep_means : (id : ℕ) → popup_meaning (cond (eqb p.id id) (kept_open p) p) ≡ Egui.kept_open (popup_meaning p) id
   keep_means id = go (eqb p.id id) (eqb p.id 0) refl refl
     where
-      go : (s b : Bool) → eqb p.id id ≡ s → eqb p.id 0 ≡ b → popup_meaning (cond s (kept_open p) p) ≡ Egui.kept_open (cond b none (some it)) id
+      go : (s b : Bool) → eqb p.id id ≡ s → eqb p.id 0 ≡ b → popup_meaning (cond s (kept_open p) p) ≡ Egui.kept_open (cond b None (Some it)) id
       go true true d e = rw e
       go true false d e = rw (d, e)
       go false true d e = rw e
       go false false d e = rw (d, e)
 
-pub opened_means : (id : ℕ) → eqb id 0 ≡ false → (pos : PopupPos) → popup_meaning (popup_at id pos) ≡ some (Egui.new_popup id (position_option pos))
+pub opened_means : (id : ℕ) → eqb id 0 ≡ false → (pos : PopupPos) → popup_meaning (popup_at id pos) ≡ Some (Egui.new_popup id (position_option pos))
 opened_means id h Absent = rw h
 opened_means id h (At x y) = rw h

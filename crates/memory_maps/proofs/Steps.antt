@@ -1,7 +1,7 @@
 -- Each call on the record: it is refused as the table says, and leaves what is there, or else a record that means what egui's method leaves and whose parts are fit. Assumes nothing.
 use Rattle.std.specs.Prelude.{◌≡◌, ℕ, zero, suc, Bool, true, false, cond, not, ◌||◌, eqb, ltb, List, length}
 use mathlib.Core.Path.{refl, sym, ap, ◌∙◌}
-use mathlib.Core.Option.{Option}
+use Rattle.std.specs.Prelude.{Option}
 use native.Mathlib.Omega.{arith}
 use Rattle.refusal.specs.Refusal.{full, lowest, id_refusal, kept}
 use Rattle.refusal.specs.Refusal.{none as notRefused}

@@ -1,6 +1,6 @@
 -- What the record answers, and what egui's Memory does: that they are the same, query by query and for every argument. Definitions only.
 use Rattle.std.specs.Prelude.{◌≡◌, ℕ}
-use Rattle.std.proofs.Math.Option.{Option, none, some}
+use Rattle.std.specs.Prelude.{Option, None, Some}
 use Rattle.refusal.specs.Refusal.{id_refusal, answered}
 use Rattle.emath.specs.declared.Pos2.{Pos2}
 use Rattle.emath.specs.declared.Rect.{Rect}
@@ -10,7 +10,7 @@ use Rattle.layer_queries.specs.declared.Listing.TheVariants.{All}
 use Rattle.layer_queries.specs.Queries.{flag_answer}
 use Rattle.areas.specs.Areas.{layers_of}
 use Rattle.focus_rules.specs.Rules.{id_or_nothing, layer_or_nothing}
-use Rattle.focus_maps.specs.Calls.{id_answer, layer_answer_of}
+use Rattle.focus_maps.specs.Calls.{layer_answer_of}
 use Rattle.memory_rules.specs.declared.PositionAnswer.{PositionAnswer}
 use Rattle.memory_rules.specs.declared.PositionAnswer.TheVariants as Position
 use Rattle.memory_rules.specs.declared.AreaRectAnswer.{AreaRectAnswer}
@@ -22,17 +22,17 @@ use Rattle.memory_maps.specs.Egui as Egui
 
 -- ---- how an answer of the port says an option
 abbrev pub position_of : Option Pos2 → PositionAnswer
-position_of none = Position.Nothing
-position_of (some pos) = Position.Is pos
+position_of None = Position.Nothing
+position_of (Some pos) = Position.Is pos
 
 abbrev pub rect_answer : Option Rect → AreaRectAnswer
-rect_answer none = AreaRect.Nothing
-rect_answer (some rect) = AreaRect.Is rect
+rect_answer None = AreaRect.Nothing
+rect_answer (Some rect) = AreaRect.Is rect
 
 -- ---- a query with an id is refused where the id is 0, one with a layer where that is none; the others answer always
 abbrev pub FocusAnswers : Memory → Egui.Memory → Type 0
 FocusAnswers m e =
-    (id_or_nothing (nav_of m).focused ≡ id_answer (Egui.focused e))
+    (id_or_nothing (nav_of m).focused ≡ Egui.focused e)
     × ((id : ℕ) → of_id had_focus m id ≡ flag_answer (id_refusal id) (Egui.had_focus_last_frame e id))
     × ((id : ℕ) → of_id has_focus m id ≡ flag_answer (id_refusal id) (Egui.has_focus e id))
     × ((id : ℕ) → of_id lost_focus m id ≡ flag_answer (id_refusal id) (Egui.lost_focus e id))

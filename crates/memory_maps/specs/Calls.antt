@@ -1,6 +1,6 @@
 -- What the record by value means in egui's terms, document 01's refusals over egui's state, and what a list of calls leaves of both. Definitions only.
 use Rattle.std.specs.Prelude.{ℕ, cond, List, [], ◌∷◌, length, ◌==◌, nat_lt}
-use Rattle.std.proofs.Math.Option.{Option, none, some}
+use Rattle.std.specs.Prelude.{Option, None, Some}
 use Rattle.refusal.specs.Refusal.{full, lowest, id_refusal, code_refusal, kept}
 use Rattle.refusal.specs.Refusal.{none as notRefused}
 use Rattle.refusal.specs.Limits.{last_direction}
@@ -23,15 +23,15 @@ use Rattle.memory_maps.specs.Egui as Egui
 
 -- ---- what the record means: a popup of id 0 is none, and its position counts only where it has one
 abbrev pub popup_meaning : Popup → Option Egui.OpenPopup
-popup_meaning p = cond (p.id == 0) none (some (record { id = p.id; pos = cond p.has_pos (some p.pos) none; open_this_frame = p.open_this_frame }))
+popup_meaning p = cond (p.id == 0) None (Some (record { id = p.id; pos = cond p.has_pos (Some p.pos) None; open_this_frame = p.open_this_frame }))
 
 abbrev pub meaning_of : Memory → Egui.Memory
 meaning_of m = record { areas = Areas.meaning_of (areas_of m); focus = Focus.meaning_of (focus_of m); popup = popup_meaning (popup_of m); requested_interrupt_ime = m.requested_interrupt_ime; everything_is_visible = m.everything_is_visible }
 
 -- how an argument of the port says an option
 abbrev pub position_option : PopupPos → Option Pos2
-position_option Absent = none
-position_option (At x y) = some (record { x = x; y = y })
+position_option Absent = None
+position_option (At x y) = Some (record { x = x; y = y })
 
 -- ---- document 01's refusals, over egui's state: how many layers and how many cached ids there may be. Only an interest call that is let through can find the cache full
 abbrev pub refusal_of : ℕ → ℕ → Call → Egui.Memory → ℕ

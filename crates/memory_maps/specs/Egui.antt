@@ -1,7 +1,6 @@
 -- Memory of memory/mod.rs (its fields from line 31 on, and lines 786 to 1187) with one viewport, in its own terms, by the methods of its Areas and its Focus. Definitions only.
 use Rattle.std.specs.Prelude.{ℕ, Bool, true, false, cond, not, ◌&&◌, ◌||◌, List, ◌==◌}
-use Rattle.std.specs.Prelude.{Option as Held, None, Some}
-use Rattle.std.proofs.Math.Option.{Option, none, some}
+use Rattle.std.specs.Prelude.{Option, None, Some}
 use Rattle.emath.specs.declared.Pos2.{Pos2}
 use Rattle.emath.specs.declared.Rect.{Rect}
 use Rattle.area.specs.declared.AreaState.{AreaState}
@@ -12,7 +11,6 @@ use Rattle.layers.specs.declared.LayerId.{LayerId}
 use Rattle.layer_queries.specs.declared.LayerAnswer.{LayerAnswer}
 use Rattle.layer_queries.specs.declared.LayerAnswer.TheVariants as LayerAnswer
 use Rattle.search.specs.declared.Candidate.{Candidate}
-use Rattle.focus_rules.specs.declared.FocusWidget.TheVariants.{Absent}
 use Rattle.area_maps.specs.Egui as Areas
 use Rattle.focus_maps.specs.Egui as Focus
 
@@ -31,7 +29,7 @@ pub record Memory : Type 0 where
 
 -- Memory::default()
 unfoldable pub empty : Memory
-empty = record { areas = Areas.empty; focus = Focus.empty; popup = none; requested_interrupt_ime = false; everything_is_visible = false }
+empty = record { areas = Areas.empty; focus = Focus.empty; popup = None; requested_interrupt_ime = false; everything_is_visible = false }
 
 -- core::cmp::Ordering, as `compare_order` has it
 abbrev pub is_less : ℕ → Bool
@@ -53,30 +51,30 @@ opened_this_frame p still = record { id = p.id; pos = p.pos; open_this_frame = s
 
 -- "Clean up abandoned popups" of end_pass
 abbrev pub cleaned_up : Option OpenPopup → Option OpenPopup
-cleaned_up none = none
-cleaned_up (some popup) = cond popup.open_this_frame (some (opened_this_frame popup false)) none
+cleaned_up None = None
+cleaned_up (Some popup) = cond popup.open_this_frame (Some (opened_this_frame popup false)) None
 
 -- `is_some_and(|state| state.id == popup_id)`
 abbrev pub is_some_and_id : Option OpenPopup → ℕ → Bool
-is_some_and_id none id = false
-is_some_and_id (some state) id = state.id == id
+is_some_and_id None id = false
+is_some_and_id (Some state) id = state.id == id
 
 abbrev pub is_some : Option OpenPopup → Bool
-is_some none = false
-is_some (some state) = true
+is_some None = false
+is_some (Some state) = true
 
 abbrev pub kept_open : Option OpenPopup → ℕ → Option OpenPopup
-kept_open none id = none
-kept_open (some state) id = cond (state.id == id) (some (opened_this_frame state true)) (some state)
+kept_open None id = None
+kept_open (Some state) id = cond (state.id == id) (Some (opened_this_frame state true)) (Some state)
 
 abbrev pub position_in : Option OpenPopup → ℕ → Option Pos2
-position_in none id = none
-position_in (some state) id = cond (state.id == id) state.pos none
+position_in None id = None
+position_in (Some state) id = cond (state.id == id) state.pos None
 
 -- `.map(|state| state.rect())`
-abbrev pub rect_in : Held AreaState → Option Rect
-rect_in None = none
-rect_in (Some state) = some (rect_of state)
+abbrev pub rect_in : Option AreaState → Option Rect
+rect_in None = None
+rect_in (Some state) = Some (rect_of state)
 
 module _ (m : Memory) where
   -- ---- one field anew, the others as they are
@@ -112,8 +110,8 @@ module _ (m : Memory) where
   top_modal_layer = m.focus.top_modal_layer
 
   abbrev pub is_above : Option LayerId → LayerId → Bool
-  is_above none layer = true
-  is_above (some modal) layer = is_equal_or_greater (Areas.compare_order m.areas layer modal)
+  is_above None layer = true
+  is_above (Some modal) layer = is_equal_or_greater (Areas.compare_order m.areas layer modal)
 
   abbrev pub is_above_modal_layer : LayerId → Bool
   is_above_modal_layer layer = is_above top_modal_layer layer
@@ -123,9 +121,9 @@ module _ (m : Memory) where
 
   -- from what the areas answer, which is a layer or nothing
   abbrev pub unless_below : LayerAnswer → Option LayerId
-  unless_below LayerAnswer.Nothing = none
-  unless_below (LayerAnswer.Is layer) = cond (is_above_modal_layer layer) (some layer) top_modal_layer
-  unless_below (LayerAnswer.Refused n) = none
+  unless_below LayerAnswer.Nothing = None
+  unless_below (LayerAnswer.Is layer) = cond (is_above_modal_layer layer) (Some layer) top_modal_layer
+  unless_below (LayerAnswer.Refused n) = None
 
   abbrev pub layer_id_at : Pos2 → Option LayerId
   layer_id_at pos = unless_below (Areas.layer_id_at m.areas pos)
@@ -179,14 +177,14 @@ module _ (m : Memory) where
 
   -- `if let Some(current) = .. && matches!(.., Less)`
   abbrev pub is_less_than : Option LayerId → LayerId → Bool
-  is_less_than none layer = false
-  is_less_than (some current) layer = is_less (Areas.compare_order m.areas layer current)
+  is_less_than None layer = false
+  is_less_than (Some current) layer = is_less (Areas.compare_order m.areas layer current)
 
   abbrev pub set_modal_layer : LayerId → Memory
   set_modal_layer layer = cond (is_less_than m.focus.top_modal_layer_current_frame layer) m (with_focus m (Focus.set_modal_layer m.focus layer))
 
   abbrev pub stop_text_input : Memory
-  stop_text_input = with_focus m (Focus.with_widget m.focus Absent)
+  stop_text_input = with_focus m (Focus.with_widget m.focus None)
 
   -- ---- the areas (lines 1032 to 1044); the calls on `areas_mut()` are those of Areas
   abbrev pub reset_areas : Memory
@@ -212,22 +210,22 @@ module _ (m : Memory) where
   any_popup_open = is_some m.popup || m.everything_is_visible
 
   abbrev pub open_popup : ℕ → Memory
-  open_popup id = with_popup m (some (new_popup id none))
+  open_popup id = with_popup m (Some (new_popup id None))
 
   abbrev pub keep_popup_open : ℕ → Memory
   keep_popup_open id = with_popup m (kept_open m.popup id)
 
   abbrev pub open_popup_at : ℕ → Option Pos2 → Memory
-  open_popup_at id pos = with_popup m (some (new_popup id pos))
+  open_popup_at id pos = with_popup m (Some (new_popup id pos))
 
   abbrev pub popup_position : ℕ → Option Pos2
   popup_position id = position_in m.popup id
 
   abbrev pub close_all_popups : Memory
-  close_all_popups = with_popup m none
+  close_all_popups = with_popup m None
 
   abbrev pub close_popup : ℕ → Memory
-  close_popup id = cond (is_popup_open id) (with_popup m none) m
+  close_popup id = cond (is_popup_open id) (with_popup m None) m
 
   abbrev pub toggle_popup : ℕ → Memory
   toggle_popup id = cond (is_popup_open id) (close_popup id) (open_popup id)

@@ -1,4 +1,5 @@
 -- The begin of a pass that has no event, a Tab or a Shift+Tab, and the end of a pass with no arrow, on the fields of the focus. Assumes nothing.
+use Rattle.std.specs.Prelude.{Option, None, Some}
 use Prim.Native.Nat.{ℕ}
 use mathlib.Core.Path.{◌≡◌, refl, ap, ◌∙◌}
 use mathlib.Core.Bool.{Bool, true, false, cond, not, ◌&&◌, ◌||◌, and-false, false≢true}
@@ -14,7 +15,7 @@ use Rattle.input.specs.Modifiers.{any_of, shift_only, shift, alt, ctrl, mac_cmd,
 use Rattle.search.specs.declared.Candidate.{Candidate}
 use Rattle.focus_rules.specs.declared.Nav.{Nav}
 use Rattle.focus_rules.specs.declared.Heard.{Heard}
-use Rattle.focus_rules.specs.declared.FocusWidget.TheVariants.{Absent, Held}
+use Rattle.focus_rules.specs.declared.FocusWidget.{FocusWidget}
 use Rattle.focus_rules.specs.Rules.{no_layer, focus_on, with_frames, with_direction, with_modals, reset_focus, filter_in, filter_of, started_of, nothing_heard, heard_of, begun_of, interested_of, found_of, dropped_of, ended_of}
 use Rattle.focus_rules.specs.Page.{wanted_all, last_of}
 use Rattle.focus_rules.proofs.Page.{yes, no}
@@ -87,7 +88,7 @@ module _ (n : Nav) (held : List Candidate) where
       unfolding filter_of
       still_off = ap (λ (k : Nav). (filter_of k).tab) plain ∙ go (eqb n.focused 0)
         where
-          go : (b : Bool) → (filter_in (cond b Absent (Held n.focused n.filter))).tab ≡ false
+          go : (b : Bool) → (filter_in (cond {A = Option FocusWidget} b None (Some (record { id = n.focused; filter = n.filter })))).tab ≡ false
           go true = refl
           go false = off
 

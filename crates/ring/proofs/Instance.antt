@@ -12,7 +12,7 @@ use Rattle.layers.specs.Layers.{layer_refusal}
 use Rattle.tables.specs.Tables.{written_on}
 use Rattle.search.specs.Search.{table_of}
 use Rattle.stacking.specs.Lists.{each}
-use Rattle.focus_rules.specs.declared.IdAnswer.TheVariants.{Is}
+use Rattle.std.specs.Prelude.{Some}
 use Rattle.focus_rules.specs.Rules.{id_or_nothing, filter_of, started_of, begun_of, interested_of, ended_of}
 use Rattle.focus_cache.specs.Cache.{held_in, has_id, enlisted, full_refusal, corners_of, cache_on}
 use Rattle.focus_pass.specs.Pass as Pass
@@ -26,7 +26,7 @@ use Rattle.ring.specs.Count.{is_tab, is_shift_tab}
 use Rattle.ring.specs.Ring.{steps_of, accepted, registered, all_used, AllRegister, are_presses, Turns}
 use Rattle.ring.specs.Instance.{fields, first, start, calls, passes, passing, tab_down}
 
-pub met : Turns fields start calls passes × (id_or_nothing (nav_of (run start calls)).focused ≡ Is 12)
+pub met : Turns fields start calls passes × (id_or_nothing (nav_of (run start calls)).focused ≡ Some 12)
 unfolding start run accepted registered all_used AllRegister are_presses is_tab is_shift_tab each steps_of is_refused done_by new_memory Memory.begun_of Memory.interested_of Memory.ended_of Memory.is_allowed Memory.is_above Focus.new_focus Focus.interested_of Pass.begin_refusal Pass.worst_of Pass.heard_all Pass.is_granted Pass.nav_begun Pass.begin_of Pass.interest_refusal Pass.interest_of filter_of started_of begun_of interested_of ended_of nav_ended cache_ended end_of Used.used_refusal Used.worst_of Used.repeated Used.elem held_in has_id enlisted full_refusal corners_of cache_on written_on table_of layer_refusal any_of shift_only is_cardinal navigation_of matches_key within rect_refusal Floats.count_of lowest of_bits of_fields lt
 met = (
   record {

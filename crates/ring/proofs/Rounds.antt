@@ -10,7 +10,7 @@ use Rattle.input.specs.declared.Event.{Event}
 use Rattle.stacking.specs.Lists.{each}
 use Rattle.search.specs.declared.Candidate.{Candidate}
 use Rattle.focus_rules.specs.declared.Nav.{Nav}
-use Rattle.focus_rules.specs.declared.IdAnswer.TheVariants as IdAnswer
+use Rattle.std.specs.Prelude.{Option, None, Some}
 use Rattle.focus_rules.specs.Rules.{id_or_nothing}
 use Rattle.focus_rules.specs.Page.{wanted_all, NoneOf}
 use Rattle.focus_pass.specs.Pass.{nav_begun}
@@ -98,7 +98,7 @@ begins fields m s = go (passed 0 (run s.before s.calls) (counted 0 0 (made s.bef
       last_one = λ l. ap (λ (k : Memory). (nav_of k).last_interested) (sym (x.more.0 ∙ s.left)) ∙ ap (λ (k : Nav). k.last_interested) (page_left s.registers x) ∙ left_last fields l _ x.at_end s.pass.used;
     }
 
-pub ring : (fields : List ℕ) (m : Memory) (calls : List Call) (passes : List Pass) → Turns fields m calls passes → id_or_nothing (nav_of (run m calls)).focused ≡ IdAnswer.Is (count_of fields (nav_of m).focused (made m calls))
+pub ring : (fields : List ℕ) (m : Memory) (calls : List Call) (passes : List Pass) → Turns fields m calls passes → id_or_nothing (nav_of (run m calls)).focused ≡ Some (count_of fields (nav_of m).focused (made m calls))
 unfolding count_of
 ring fields m calls passes t = answer (walk fields t.distinct begun.some passes m place (run m calls) end t.register t.presses ready (rw t.whole at (reaches (length fields) m place calls)))
   where
@@ -117,5 +117,5 @@ ring fields m calls passes t = answer (walk fields t.distinct begun.some passes 
         let rest : Resting fields place (nav_of m) = (sym f, t.start.tab_off, t.start.no_give, t.start.no_next) in
         record { inside = l; stands = rests rest; at_rest_lem = λ q. rest; last_one = begun.last_one (omega arith) }
 
-    answer : Ready fields end (nav_of (run m calls)) false → id_or_nothing (nav_of (run m calls)).focused ≡ IdAnswer.Is (get_or fields end 0)
-    answer r = ap (λ (id : ℕ). id_or_nothing id) (r.at_rest_lem refl).0 ∙ ap (λ (b : Bool). cond b IdAnswer.Nothing (IdAnswer.Is (get_or fields end 0))) (ne_eqb (get_or fields end 0) 0 (not_there fields 0 end begun.some r.inside))
+    answer : Ready fields end (nav_of (run m calls)) false → id_or_nothing (nav_of (run m calls)).focused ≡ Some (get_or fields end 0)
+    answer r = ap (λ (id : ℕ). id_or_nothing id) (r.at_rest_lem refl).0 ∙ ap (λ (b : Bool). cond {A = Option ℕ} b None (Some (get_or fields end 0))) (ne_eqb (get_or fields end 0) 0 (not_there fields 0 end begun.some r.inside))
