@@ -1,21 +1,20 @@
 -- Document 01's starred panel situations as one table: each line is what goes in and what must come out.
 -- Definitions only.
-use Rattle.std.specs.Prelude.{ℕ, ◌*◌, Bool, true, false, ◌&&◌, List, [], ◌∷◌, ◌++◌, eqb, Float}
+use Rattle.std.specs.Prelude.{ℕ, ◌*◌, Bool, true, false, ◌&&◌, List, [], ◌∷◌, ◌++◌, eqb, Float, Result, Ok, Err}
+use Rattle.refusal.specs.declared.Refusal.{Refusal}
+use Rattle.refusal.specs.Refusal.{answer}
+use Rattle.emath.specs.declared.Pos2.{Pos2}
 use Rattle.std.specs.Bool.{beq}
 use Rattle.std.specs.Float.{binary32}
 use Rattle.std.specs.Float.Ieee.{round, to_bits}
 use Rattle.emath.specs.declared.Rect.{Rect}
 use Rattle.area.specs.declared.AreaState.{AreaState}
-use Rattle.area.specs.declared.PosAnswer.{PosAnswer}
 use Rattle.area.specs.declared.PivotPos.TheVariants as PivotPos
 use Rattle.area.specs.declared.Size.TheVariants as Size
-use Rattle.area.specs.declared.PosAnswer.TheVariants as PosAnswer
-use Rattle.area.specs.Area.{default_state, left_top, state_refusal, pos_answer}
+use Rattle.area.specs.Area.{default_state, left_top, state_refusal}
 use Rattle.input.specs.declared.Event.TheVariants.{Key}
-use Rattle.input.specs.declared.Matched.{Matched}
-use Rattle.input.specs.declared.Matched.TheVariants as Matched
 use Rattle.input.specs.Event.{event_refusal}
-use Rattle.input.specs.EventFilter.{default_filter, matches_of, matched_answer}
+use Rattle.input.specs.EventFilter.{default_filter, matches_of}
 use Rattle.input.specs.FocusDirection.{up, right, down, left}
 use Rattle.candidate.specs.Candidate.{range_diff, is_in_search_cone}
 use Rattle.search.specs.declared.Candidate.{Candidate}
@@ -58,13 +57,13 @@ pub data Situation : Type 0 where
 abbrev pub area_at : Float → ℕ → Float → Float → ℕ → Float → AreaState
 area_at px fx w py fy h = record { pivot_pos = PivotPos.At px py; pivot = record { x = fx; y = fy }; size = Size.Of w h; interactable = true }
 
-abbrev pub is_at : Float → Float → PosAnswer → Bool
-is_at x y (PosAnswer.Is p) = same p.x x && same p.y y
-is_at x y (PosAnswer.Refused n) = false
+abbrev pub is_at : Float → Float → Result Pos2 Refusal → Bool
+is_at x y (Ok p) = same p.x x && same p.y y
+is_at x y (Err r) = false
 
-abbrev pub is_matched : Bool → Matched → Bool
-is_matched b (Matched.Is r) = beq b r
-is_matched b (Matched.Refused n) = false
+abbrev pub is_matched : Bool → Result Bool Refusal → Bool
+is_matched b (Ok r) = beq b r
+is_matched b (Err r) = false
 
 -- a rectangle of no size
 abbrev pub point_at : Float → Float → Rect
@@ -107,8 +106,8 @@ same_layers [] (id ∷ ids) = false
 same_layers (l ∷ list) [] = false
 
 unfoldable pub holds : Situation → Bool
-holds (left_top_at px fx w py fy h x y) = is_at x y (pos_answer (state_refusal (area_at px fx w py fy h)) (left_top (area_at px fx w py fy h)))
-holds (key_matches key b) = is_matched b (matched_answer (event_refusal (Key key true false 0)) (matches_of default_filter (Key key true false 0)))
+holds (left_top_at px fx w py fy h x y) = is_at x y (answer (state_refusal (area_at px fx w py fy h)) (left_top (area_at px fx w py fy h)))
+holds (key_matches key b) = is_matched b (answer (event_refusal (Key key true false 0)) (matches_of default_filter (Key key true false 0)))
 holds (apart a0 a1 b0 b1 d) = same (range_diff (record { min = a0; max = a1 }) (record { min = b0; max = b1 })) d
 holds (in_cone x y k b) = beq b (is_in_search_cone (record { x = x; y = y }) k)
 holds (finds k table id) = eqb (find_of table 0 (point_at (plus 0 1) (plus 0 1)) k) id
