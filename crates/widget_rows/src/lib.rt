@@ -9,7 +9,7 @@
 
 ghost use Rattle.std.specs.Prelude.{◌≡◌, ◌+◌, ◌-◌, ◌*◌, ◌/◌, min, ◌≤◌, ◌<◌, length, take};
 ghost use Rattle.tables.specs.Tables.{closed};
-ghost use Rattle.widget_rows.specs.Rows.{rows_in, lent, home_of, room_of, held_of, found_in, rect_at, layer_at, is_in, index_at, record_at, record_or, next_index, lowered_at, renumbered, entry_of, listed_in};
+ghost use Rattle.widget_rows.specs.Rows.{rows_in, lent, home_of, place_of, room_of, held_of, found_in, rect_at, layer_at, is_in, index_at, record_at, record_or, next_index, lowered_at, renumbered, entry_of, listed_in};
 
 use emath::{Pos2, Rect};
 use layers::LayerId;
@@ -132,6 +132,19 @@ pub fn home(cells: &[u64], id: u64) -> usize
     ((cells.len() as u64).saturating_sub(1) & id) as usize
 }
 
+// The row of an id among the first n, or among all where they are fewer. Where the cell of its home is 0, it has none; else it is the row before the cell's,
+// or a little below, since rows that move go down.
+#[tactic(auto, using(crate::proofs::Places::by_cell), unfolding(crate::specs::Rows::place_of, crate::specs::Rows::place_by))]
+pub fn place(cells: &[u64], ids: &[u64], n: usize, id: u64) -> Option<usize>
+    ensures { result ≡ place_of cells.now (take n ids.now) id }
+{
+    let cell = cells.get(home(cells, id)).copied().unwrap_or(1);
+    if cell == 0 {
+        return None;
+    }
+    tables::find(&ids[..n.min(ids.len())], cell as usize, id)
+}
+
 // ---- what is held
 
 // The tables, lent to be read, and how many rows are held.
@@ -164,16 +177,12 @@ impl WidgetTable<'_> {
         self.count.min(self.room())
     }
 
-    // The row of an id. Where the cell of its home is 0, it has none; else it is the row before the cell's, or a little below, since rows that move go down.
-    #[tactic(auto, using(crate::proofs::Places::by_cell), unfolding(crate::specs::Rows::found_in, crate::specs::Rows::place_of, crate::specs::Rows::place_by, crate::specs::Rows::held_in, crate::specs::Rows::room_of))]
+    // The row of an id.
+    #[tactic(auto, unfolding(crate::specs::Rows::found_in))]
     pub fn find(self, id: u64) -> Option<usize>
         ensures { result ≡ found_in (lent self.entry) id }
     {
-        let cell = self.cells.get(home(self.cells, id)).copied().unwrap_or(1);
-        if cell == 0 {
-            return None;
-        }
-        tables::find(&self.ids[..self.held()], cell as usize, id)
+        place(self.cells, self.ids, self.held(), id)
     }
 
     // The record held by id at row k, or d past the room, so that no caller has to be asked for a row that is there.
