@@ -41,10 +41,7 @@ impl WidgetRect {
     fn rects_refusal(self) -> u64
         ensures { result ≡ rects_refusal self }
     {
-        refusal::number(refusal::both(
-            grid::rect(self.rect),
-            grid::rect(self.interact_rect),
-        ))
+        refusal::number(refusal::both(grid::rect(self.rect), grid::rect(self.interact_rect)))
     }
 
     // What the record alone is refused for.
