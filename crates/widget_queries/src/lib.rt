@@ -8,69 +8,34 @@ ghost use Rattle.widget_rows.specs.Rows.{lent, list_of};
 ghost use Rattle.widget_queries.specs.Queries.{order_answer, widget_answer, contains_answer, focusable_ids};
 
 use layers::LayerId;
-use refusal::NONE;
+use refusal::Refusal;
 use widget_rect::WidgetRect;
 use widget_rows::WidgetTable;
 
 // In which layer, and at which place of its list.
-#[derive(Clone, Copy)]
-pub enum OrderAnswer {
-    Nothing,
-    Is(LayerId, u64),
-    Refused(u64),
-}
-
-#[derive(Clone, Copy)]
-pub enum WidgetAnswer {
-    Nothing,
-    Is(WidgetRect),
-    Refused(u64),
-}
-
-#[derive(Clone, Copy)]
-pub enum ContainsAnswer {
-    Is(bool),
-    Refused(u64),
-}
-
 #[tactic(auto, unfolding(crate::specs::Queries::order_answer))]
-pub fn order(table: WidgetTable, id: u64) -> OrderAnswer
+pub fn order(table: WidgetTable, id: u64) -> Result<Option<(LayerId, u64)>, Refusal>
     ensures { result ≡ order_answer (lent table.entry) id }
 {
-    let refusal = refusal::id_refusal(id);
-    if refusal != NONE {
-        return OrderAnswer::Refused(refusal);
-    }
-    match table.get(id) {
-        Some((index, w)) => OrderAnswer::Is(w.layer_id, index),
-        None => OrderAnswer::Nothing,
-    }
+    refusal::check_id(id)?;
+    Ok(table.get(id).map(|(index, w)| (w.layer_id, index)))
 }
 
 // egui's `get`.
 #[tactic(auto, unfolding(crate::specs::Queries::widget_answer))]
-pub fn widget(table: WidgetTable, id: u64) -> WidgetAnswer
+pub fn widget(table: WidgetTable, id: u64) -> Result<Option<WidgetRect>, Refusal>
     ensures { result ≡ widget_answer (lent table.entry) id }
 {
-    let refusal = refusal::id_refusal(id);
-    if refusal != NONE {
-        return WidgetAnswer::Refused(refusal);
-    }
-    match table.get(id) {
-        Some((_, w)) => WidgetAnswer::Is(w),
-        None => WidgetAnswer::Nothing,
-    }
+    refusal::check_id(id)?;
+    Ok(table.get(id).map(|(_, w)| w))
 }
 
 #[tactic(auto, unfolding(crate::specs::Queries::contains_answer))]
-pub fn contains(table: WidgetTable, id: u64) -> ContainsAnswer
+pub fn contains(table: WidgetTable, id: u64) -> Result<bool, Refusal>
     ensures { result ≡ contains_answer (lent table.entry) id }
 {
-    let refusal = refusal::id_refusal(id);
-    if refusal != NONE {
-        return ContainsAnswer::Refused(refusal);
-    }
-    ContainsAnswer::Is(table.get(id).is_some())
+    refusal::check_id(id)?;
+    Ok(table.get(id).is_some())
 }
 
 // Puts the widget's id at place n, if it is focusable; the place after it.

@@ -2,11 +2,12 @@
 #![tactic(auto)]
 
 ghost use Rattle.std.specs.Prelude.{◌≡◌};
+ghost use Rattle.refusal.specs.Refusal.{number_in};
 ghost use Rattle.widget_rect.specs.WidgetRect.{is_focusable, joined_of, ids_refusal, rects_refusal, other_layer_refusal, widget_refusal, insert_refusal};
 
 use emath::Rect;
 use layers::LayerId;
-use refusal::{LAST_SENSE, NONE, OTHER_LAYER};
+use refusal::{LAST_SENSE, Refusal};
 
 #[derive(Clone, Copy)]
 #[repr(C)]
@@ -16,54 +17,58 @@ pub struct WidgetRect {
     pub layer_id: LayerId,
     pub rect: Rect,
     pub interact_rect: Rect,
-    // The bits click 1, drag 2, focusable 4.
+    // The bits click 1, drag 2, focusable 4; a code, as all kinds are in document 01.
     pub sense: u64,
     pub enabled: bool,
     pub visible: bool,
 }
 
-fn other_layer(call: LayerId, held: LayerId) -> u64
-    ensures { result ≡ other_layer_refusal call held }
+fn check_layers(call: LayerId, held: LayerId) -> Result<(), Refusal>
+    ensures { number_in result ≡ other_layer_refusal call held }
 {
-    if call.is(held) { NONE } else { OTHER_LAYER }
+    if call.is(held) {
+        Ok(())
+    } else {
+        Err(Refusal::OtherLayer)
+    }
 }
 
 impl WidgetRect {
-    fn ids_refusal(self) -> u64
-        ensures { result ≡ ids_refusal self }
+    fn check_ids(self) -> Result<(), Refusal>
+        ensures { number_in result ≡ ids_refusal self }
     {
-        refusal::lowest(
-            refusal::id_refusal(self.id),
-            refusal::id_refusal(self.parent_id),
+        refusal::both(
+            refusal::check_id(self.id),
+            refusal::check_id(self.parent_id),
         )
     }
 
-    fn rects_refusal(self) -> u64
-        ensures { result ≡ rects_refusal self }
+    fn check_rects(self) -> Result<(), Refusal>
+        ensures { number_in result ≡ rects_refusal self }
     {
-        refusal::number(refusal::both(grid::rect(self.rect), grid::rect(self.interact_rect)))
+        refusal::both(grid::rect(self.rect), grid::rect(self.interact_rect))
     }
 
     // What the record alone is refused for.
     #[tactic(auto, unfolding(crate::specs::WidgetRect::widget_refusal))]
-    fn refusal(self) -> u64
-        ensures { result ≡ widget_refusal self }
+    fn check(self) -> Result<(), Refusal>
+        ensures { number_in result ≡ widget_refusal self }
     {
-        let codes = refusal::lowest(
-            self.layer_id.refusal(),
-            refusal::code_refusal(self.sense, LAST_SENSE),
+        let codes = refusal::both(
+            self.layer_id.check(),
+            refusal::check_code(self.sense, LAST_SENSE),
         );
-        let rest = refusal::lowest(codes, self.rects_refusal());
-        refusal::lowest(self.ids_refusal(), rest)
+        let rest = refusal::both(codes, self.check_rects());
+        refusal::both(self.check_ids(), rest)
     }
 
     // What an insert of the record into a layer is refused for, whatever the registry holds.
     #[tactic(auto, unfolding(crate::specs::WidgetRect::insert_refusal))]
-    pub fn insert_refusal(self, layer: LayerId) -> u64
-        ensures { result ≡ insert_refusal self layer }
+    pub fn check_insert(self, layer: LayerId) -> Result<(), Refusal>
+        ensures { number_in result ≡ insert_refusal self layer }
     {
-        let layers = refusal::lowest(layer.refusal(), other_layer(layer, self.layer_id));
-        refusal::lowest(self.refusal(), layers)
+        let layers = refusal::both(layer.check(), check_layers(layer, self.layer_id));
+        refusal::both(self.check(), layers)
     }
 
     // What insert does to the record of a known widget: the new rectangles, and sense, enabled and visible joined.

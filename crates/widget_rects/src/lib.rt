@@ -2,14 +2,14 @@
 #![tactic(auto)]
 
 ghost use Rattle.std.specs.Prelude.{◌≡◌};
+ghost use Rattle.refusal.specs.Refusal.{answer};
 ghost use Rattle.widget_rows.specs.Rows.{lent, list_of};
 ghost use Rattle.widget_queries.specs.Queries.{order_answer, widget_answer, contains_answer};
 ghost use Rattle.widget_rects.specs.WidgetRects.{table_of, new_rects, inserted_of, cleared_rects, blank_widget, listing, list_answer, ids_answer};
 
 use emath::{Pos2, Rect};
 use layers::LayerId;
-use refusal::{NONE, WIDGETS};
-use widget_queries::{ContainsAnswer, OrderAnswer, WidgetAnswer};
+use refusal::{Refusal, WIDGETS};
 use widget_rect::WidgetRect;
 use widget_rows::WidgetTable;
 
@@ -22,23 +22,15 @@ pub struct WidgetRects {
     pub rects: [f32; 16 * WIDGETS],
 }
 
-#[derive(Clone, Copy)]
-pub struct Inserted {
-    pub refusal: u64,
-    pub widgets: WidgetRects,
-}
-
-// The widgets of a list, in its order, and how many they are; the places after them are blank. None where the call is refused.
+// The widgets of a list, in its order, and how many they are; the places after them are blank. There is no heap: an array with a count.
 #[derive(Clone, Copy)]
 pub struct Listing {
-    pub refusal: u64,
     pub count: usize,
     pub widgets: [WidgetRect; WIDGETS],
 }
 
 #[derive(Clone, Copy)]
 pub struct Ids {
-    pub refusal: u64,
     pub count: usize,
     pub ids: [u64; WIDGETS],
 }
@@ -78,10 +70,15 @@ impl WidgetRects {
     }
 
     #[tactic(auto, unfolding(crate::specs::WidgetRects::inserted_of))]
-    pub fn insert(mut self, layer: LayerId, new: WidgetRect, move_to_top: bool) -> Inserted
-        ensures { result ≡ inserted_of self layer new move_to_top }
+    pub fn insert(
+        mut self,
+        layer: LayerId,
+        new: WidgetRect,
+        move_to_top: bool,
+    ) -> Result<WidgetRects, Refusal>
+        ensures { result ≡ answer (inserted_of self layer new move_to_top).refusal (inserted_of self layer new move_to_top).widgets }
     {
-        let r = widget_table::insert(
+        self.count = widget_table::insert(
             &mut self.cells,
             &mut self.ids,
             &mut self.words,
@@ -90,12 +87,8 @@ impl WidgetRects {
             layer,
             new,
             move_to_top,
-        );
-        self.count = r.count;
-        Inserted {
-            refusal: r.refusal,
-            widgets: self,
-        }
+        )?;
+        Ok(self)
     }
 
     #[tactic(auto, unfolding(crate::specs::WidgetRects::cleared_rects, widget_table::specs::Table::clear_of))]
@@ -118,19 +111,19 @@ impl WidgetRects {
         }
     }
 
-    pub fn order(&self, id: u64) -> OrderAnswer
+    pub fn order(&self, id: u64) -> Result<Option<(LayerId, u64)>, Refusal>
         ensures { result ≡ order_answer (table_of self.now) id }
     {
         widget_queries::order(self.table(), id)
     }
 
-    pub fn get(&self, id: u64) -> WidgetAnswer
+    pub fn get(&self, id: u64) -> Result<Option<WidgetRect>, Refusal>
         ensures { result ≡ widget_answer (table_of self.now) id }
     {
         widget_queries::widget(self.table(), id)
     }
 
-    pub fn contains(&self, id: u64) -> ContainsAnswer
+    pub fn contains(&self, id: u64) -> Result<bool, Refusal>
         ensures { result ≡ contains_answer (table_of self.now) id }
     {
         widget_queries::contains(self.table(), id)
@@ -149,46 +142,24 @@ impl WidgetRects {
             count += 1;
             from = next;
         }
-        Listing {
-            refusal: NONE,
-            count,
-            widgets,
-        }
+        Listing { count, widgets }
     }
 
     #[tactic(auto, unfolding(crate::specs::WidgetRects::list_answer))]
-    pub fn get_layer(&self, layer: LayerId) -> Listing
+    pub fn get_layer(&self, layer: LayerId) -> Result<Listing, Refusal>
         ensures { result ≡ list_answer (table_of self.now) layer }
     {
-        let refusal = layer.refusal();
-        if refusal != NONE {
-            return Listing {
-                refusal,
-                count: 0,
-                widgets: [blank(); WIDGETS],
-            };
-        }
-        self.list(layer)
+        layer.check()?;
+        Ok(self.list(layer))
     }
 
     #[tactic(auto, unfolding(crate::specs::WidgetRects::ids_answer, widget_rows::specs::Rows::list_of))]
-    pub fn focusable_widgets_in_layer(&self, layer: LayerId) -> Ids
+    pub fn focusable_widgets_in_layer(&self, layer: LayerId) -> Result<Ids, Refusal>
         ensures { result ≡ ids_answer (table_of self.now) layer }
     {
+        layer.check()?;
         let mut ids = [0; WIDGETS];
-        let refusal = layer.refusal();
-        if refusal != NONE {
-            return Ids {
-                refusal,
-                count: 0,
-                ids,
-            };
-        }
         let count = widget_queries::focusable_widgets(self.table(), layer, &mut ids);
-        Ids {
-            refusal: NONE,
-            count,
-            ids,
-        }
+        Ok(Ids { count, ids })
     }
 }

@@ -3,21 +3,15 @@
 #![tactic(auto)]
 
 ghost use Rattle.std.specs.Prelude.{◌≡◌, ◌+◌, ◌-◌, ◌*◌, ◌≤◌, ◌<◌, length};
+ghost use Rattle.refusal.specs.Refusal.{number_in, answer};
 ghost use Rattle.tables.specs.Tables.{put_at};
 ghost use Rattle.widget_rows.specs.Rows.{rows_in, table_in};
 ghost use Rattle.widget_table.specs.Table.{full_refusal, edges_of, look_of, shared_of, push_of, remove_of, update_of, row_after, refusal_of, insert_of, cleared_cells};
 
 use layers::LayerId;
-use refusal::{FULL, NONE};
+use refusal::Refusal;
 use widget_rect::WidgetRect;
 use widget_rows::WidgetTable;
-
-#[derive(Clone, Copy)]
-#[repr(C)]
-pub struct Inserted {
-    pub refusal: u64,
-    pub count: usize,
-}
 
 // ---- the numbers of a row
 
@@ -75,13 +69,13 @@ fn remove(ids: &mut [u64], words: &mut [u64], rects: &mut [f32], n: usize, k: us
     tables::close(&mut rects[16 * k..16 * n], 16);
 }
 
-fn full_refusal(found: Option<usize>, n: usize, room: usize) -> u64
-    ensures { result ≡ full_refusal found n room }
+fn check_room(found: Option<usize>, n: usize, room: usize) -> Result<(), Refusal>
+    ensures { number_in result ≡ full_refusal found n room }
 {
     if found.is_some() || n < room {
-        NONE
+        Ok(())
     } else {
-        FULL
+        Err(Refusal::Full)
     }
 }
 
@@ -115,6 +109,7 @@ fn update(
     k
 }
 
+// How many rows are then held.
 #[tactic(auto, unfolding(crate::specs::Table::refusal_of, crate::specs::Table::insert_of, crate::specs::Table::joined_at))]
 pub fn insert(
     cells: &mut [u64],
@@ -125,8 +120,9 @@ pub fn insert(
     layer: LayerId,
     new: WidgetRect,
     move_to_top: bool,
-) -> Inserted
-    ensures { (result.refusal ≡ refusal_of (table_in count cells.old ids.old words.old rects.old) layer new) × (table_in result.count cells.new ids.new words.new rects.new ≡ insert_of (table_in count cells.old ids.old words.old rects.old) layer new move_to_top) }
+) -> Result<usize, Refusal>
+    ensures count { result ≡ answer (refusal_of (table_in count cells.old ids.old words.old rects.old) layer new) (insert_of (table_in count cells.old ids.old words.old rects.old) layer new move_to_top).count }
+    ensures table { table_in (insert_of (table_in count cells.old ids.old words.old rects.old) layer new move_to_top).count cells.new ids.new words.new rects.new ≡ insert_of (table_in count cells.old ids.old words.old rects.old) layer new move_to_top }
 {
     let table = WidgetTable {
         count,
@@ -138,28 +134,19 @@ pub fn insert(
     let room = table.room();
     let n = table.held();
     let found = table.find(new.id);
-    let refusal = refusal::lowest(new.insert_refusal(layer), full_refusal(found, n, room));
-    if refusal != NONE {
-        return Inserted { refusal, count };
-    }
+    refusal::both(new.check_insert(layer), check_room(found, n, room))?;
     let home = widget_rows::home(cells, new.id);
     match found {
         Some(k) => {
             let w = table.record_or(k, new).joined(new);
             let row = update(ids, words, rects, n, k, w, new, move_to_top);
             tables::put_one(cells, home, row as u64 + 1);
-            Inserted {
-                refusal: NONE,
-                count: n,
-            }
+            Ok(n)
         }
         None => {
             push(ids, words, rects, n, new);
             tables::put_one(cells, home, n as u64 + 1);
-            Inserted {
-                refusal: NONE,
-                count: n + 1,
-            }
+            Ok(n + 1)
         }
     }
 }
