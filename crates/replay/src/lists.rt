@@ -1,8 +1,10 @@
 // `begin` and `end`, which carry a list.
+use crate::answer::Answer;
+use crate::memory_calls::change;
 use crate::words::Words;
 use focus::{Events, Used};
 use input::Event;
-use memory_rules::{Done, Memory};
+use memory_rules::Memory;
 use refusal::{EVENTS, USED};
 
 // An event as four numbers. Of a key the third is 1 where it is pressed, and 2 more where it is a repeat.
@@ -25,7 +27,7 @@ fn numbers(event: Event) -> [u64; 4] {
 }
 
 // `begin N EVENT..`: of more events than there is room for only their number counts.
-pub fn begin(mut words: Words, memory: &Memory) -> Option<Done> {
+pub fn begin(words: &mut Words, m: &mut Memory, answer: &mut Answer) -> Option<()> {
     let count = words.number()? as usize;
     let mut events = Events {
         words: [0; 4 * EVENTS],
@@ -37,12 +39,11 @@ pub fn begin(mut words: Words, memory: &Memory) -> Option<Done> {
             events.words[4 * i..4 * i + 4].copy_from_slice(&numbers(event));
         }
     }
-    words.end()?;
-    Some(memory::begin_pass(*memory, events))
+    change(words, m, answer, |m| memory::begin_pass(m, events))
 }
 
 // `end N (ID X0 Y0 X1 Y1)..`: likewise.
-pub fn end(mut words: Words, memory: &Memory) -> Option<Done> {
+pub fn end(words: &mut Words, m: &mut Memory, answer: &mut Answer) -> Option<()> {
     let count = words.number()? as usize;
     let mut used = Used {
         ids: [0; USED],
@@ -59,6 +60,5 @@ pub fn end(mut words: Words, memory: &Memory) -> Option<Done> {
             ]);
         }
     }
-    words.end()?;
-    Some(memory::end_pass(*memory, used))
+    change(words, m, answer, |m| memory::end_pass(m, used))
 }

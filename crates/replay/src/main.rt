@@ -16,7 +16,7 @@ use crate::session::Session;
 use std::io;
 use std::io::{BufRead, BufReader, BufWriter, Write};
 
-// A longer line is answered `bad`.
+// A longer line is answered as an empty one, `bad`.
 const LONGEST: usize = 65536;
 
 fn main(rt: HostRuntime) -> io::Result<()> {
@@ -32,6 +32,9 @@ fn main(rt: HostRuntime) -> io::Result<()> {
         }
         if line.ends_with(b"\n") {
             line.pop();
+        }
+        if LONGEST < line.len() {
+            line.clear();
         }
         session.answer(line.as_slice(), &mut answer);
         output.write_all(answer.as_bytes())?;

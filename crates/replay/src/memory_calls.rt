@@ -1,18 +1,42 @@
-// The calls of `Memory` and those without state. None is a line that is no such call.
+// The calls of `Memory` and those without state. None is a line that is no such call, and changes nothing.
+// A call takes the memory by value: it stands in a small function, since a function pays at entry for the size of its locals.
 use crate::answer::Answer;
 use crate::forms::Put;
 use crate::library;
 use crate::words::Words;
+use layers::LayerId;
 use memory::popups;
 use memory_rules::{Done, Memory};
 use refusal::NONE;
 
 // ---- calls that change the memory
 
-pub fn change(name: &[u8], mut words: Words, m: &Memory) -> Option<Done> {
-    let done = change_focus(name, &mut words, m)?;
+pub fn change<F: FnOnce(Memory) -> Done>(
+    words: &Words,
+    m: &mut Memory,
+    answer: &mut Answer,
+    call: F,
+) -> Option<()>
+    requires { F.IsAlwaysCallable call }
+{
     words.end()?;
-    Some(done)
+    let done = call(*m);
+    *m = done.memory;
+    library::done(done.refusal).put(answer);
+    Some(())
+}
+
+// One that takes an id.
+fn change_by_id<F: FnOnce(Memory, u64) -> Done>(
+    words: &mut Words,
+    m: &mut Memory,
+    answer: &mut Answer,
+    call: F,
+) -> Option<()>
+    requires { F.IsAlwaysCallable call }
+{
+    let id = words.number()?;
+    change(words, m, answer, |m| call(m, id))
 }
 
 fn taken(memory: Memory) -> Done {
@@ -22,112 +46,189 @@ fn taken(memory: Memory) -> Done {
     }
 }
 
-fn change_focus(name: &[u8], words: &mut Words, m: &Memory) -> Option<Done> {
-    Some(match name {
-        b"interest" => memory::interested_in_focus(*m, words.number()?, words.layer()?),
+pub fn call(name: &[u8], words: &mut Words, m: &mut Memory, answer: &mut Answer) -> Option<()> {
+    match name {
+        b"interest" => {
+            let id = words.number()?;
+            let layer = words.layer()?;
+            change(
+                words,
+                m,
+                answer,
+                |m| memory::interested_in_focus(m, id, layer),
+            )
+        }
         b"set_focus_lock_filter" => {
-            memory::set_focus_lock_filter(*m, words.number()?, words.filter()?)
+            let id = words.number()?;
+            let filter = words.filter()?;
+            change(
+                words,
+                m,
+                answer,
+                |m| memory::set_focus_lock_filter(m, id, filter),
+            )
         }
-        b"request_focus" => memory::request_focus(*m, words.number()?),
-        b"request_focus_next_frame" => memory::request_focus_next_frame(*m, words.number()?),
-        b"surrender_focus" => memory::surrender_focus(*m, words.number()?),
-        b"ignore_focus" => memory::ignore_focus(*m, words.number()?),
-        b"move_focus" => memory::move_focus(*m, words.number()?),
-        b"set_modal_layer" => memory::set_modal_layer(*m, words.layer()?),
-        b"stop_text_input" => taken(memory::stop_text_input(*m)),
-        b"interrupt_ime" => taken(memory::interrupt_ime(*m)),
-        _ => return change_areas(name, words, m),
-    })
+        b"request_focus" => change_by_id(words, m, answer, memory::request_focus),
+        b"request_focus_next_frame" => {
+            change_by_id(words, m, answer, memory::request_focus_next_frame)
+        }
+        b"surrender_focus" => change_by_id(words, m, answer, memory::surrender_focus),
+        b"ignore_focus" => change_by_id(words, m, answer, memory::ignore_focus),
+        b"move_focus" => change_by_id(words, m, answer, memory::move_focus),
+        b"set_modal_layer" => {
+            let layer = words.layer()?;
+            change(words, m, answer, |m| memory::set_modal_layer(m, layer))
+        }
+        b"stop_text_input" => change(words, m, answer, |m| taken(memory::stop_text_input(m))),
+        b"interrupt_ime" => change(words, m, answer, |m| taken(memory::interrupt_ime(m))),
+        _ => change_areas(name, words, m, answer),
+    }
 }
 
-fn change_areas(name: &[u8], words: &mut Words, m: &Memory) -> Option<Done> {
-    Some(match name {
-        b"set_state" => memory_areas::set_state(*m, words.layer()?, words.state()?),
-        b"move_to_top" => memory_areas::move_to_top(*m, words.layer()?),
-        b"set_sublayer" => memory_areas::set_sublayer(*m, words.layer()?, words.layer()?),
-        b"reset_areas" => taken(memory_areas::reset_areas(*m)),
-        b"set_everything_is_visible" => {
-            taken(memory::set_everything_is_visible(*m, words.flag()?))
+fn change_areas(name: &[u8], words: &mut Words, m: &mut Memory, answer: &mut Answer) -> Option<()> {
+    match name {
+        b"set_state" => {
+            let layer = words.layer()?;
+            let state = words.state()?;
+            change(
+                words,
+                m,
+                answer,
+                |m| memory_areas::set_state(m, layer, state),
+            )
         }
-        _ => return change_popup(name, words, m),
-    })
+        b"move_to_top" => {
+            let layer = words.layer()?;
+            change(words, m, answer, |m| memory_areas::move_to_top(m, layer))
+        }
+        b"set_sublayer" => {
+            let parent = words.layer()?;
+            let child = words.layer()?;
+            change(
+                words,
+                m,
+                answer,
+                |m| memory_areas::set_sublayer(m, parent, child),
+            )
+        }
+        b"reset_areas" => change(words, m, answer, |m| taken(memory_areas::reset_areas(m))),
+        _ => change_popup(name, words, m, answer),
+    }
 }
 
-fn change_popup(name: &[u8], words: &mut Words, m: &Memory) -> Option<Done> {
-    Some(match name {
-        b"open_popup" => popups::open_popup(*m, words.number()?),
+fn change_popup(name: &[u8], words: &mut Words, m: &mut Memory, answer: &mut Answer) -> Option<()> {
+    match name {
+        b"open_popup" => change_by_id(words, m, answer, popups::open_popup),
         b"open_popup_at" => {
             let id = words.number()?;
-            popups::open_popup_at(*m, id, library::popup_pos(words.held_pos()?))
+            let pos = library::popup_pos(words.held_pos()?);
+            change(words, m, answer, |m| popups::open_popup_at(m, id, pos))
         }
-        b"keep_popup_open" => popups::keep_popup_open(*m, words.number()?),
-        b"close_popup" => popups::close_popup(*m, words.number()?),
-        b"toggle_popup" => popups::toggle_popup(*m, words.number()?),
-        b"close_all_popups" => taken(popups::close_all_popups(*m)),
-        _ => return None,
-    })
+        b"keep_popup_open" => change_by_id(words, m, answer, popups::keep_popup_open),
+        b"close_popup" => change_by_id(words, m, answer, popups::close_popup),
+        b"toggle_popup" => change_by_id(words, m, answer, popups::toggle_popup),
+        b"close_all_popups" => change(words, m, answer, |m| taken(popups::close_all_popups(m))),
+        b"set_everything_is_visible" => {
+            let visible = words.flag()?;
+            change(
+                words,
+                m,
+                answer,
+                |m| taken(memory::set_everything_is_visible(m, visible)),
+            )
+        }
+        _ => query_focus(name, words, m, answer),
+    }
 }
 
 // ---- calls that change nothing
 
-pub fn query(name: &[u8], mut words: Words, m: &Memory, answer: &mut Answer) -> Option<()> {
-    query_focus(name, &mut words, m, answer)?;
-    words.end()
+fn ask<T: Put, F: FnOnce(Memory) -> T>(
+    words: &Words,
+    m: &Memory,
+    answer: &mut Answer,
+    call: F,
+) -> Option<()>
+    requires { F.IsAlwaysCallable call }
+{
+    words.end()?;
+    call(*m).put(answer);
+    Some(())
+}
+
+// One that takes an id or a code.
+fn ask_by_id<T: Put, F: FnOnce(Memory, u64) -> T>(
+    words: &mut Words,
+    m: &Memory,
+    answer: &mut Answer,
+    call: F,
+) -> Option<()>
+    requires { F.IsAlwaysCallable call }
+{
+    let id = words.number()?;
+    ask(words, m, answer, |m| call(m, id))
+}
+
+// One that takes a layer.
+fn ask_by_layer<T: Put, F: FnOnce(Memory, LayerId) -> T>(
+    words: &mut Words,
+    m: &Memory,
+    answer: &mut Answer,
+    call: F,
+) -> Option<()>
+    requires { F.IsAlwaysCallable call }
+{
+    let layer = words.layer()?;
+    ask(words, m, answer, |m| call(m, layer))
 }
 
 fn query_focus(name: &[u8], words: &mut Words, m: &Memory, answer: &mut Answer) -> Option<()> {
     match name {
-        b"focused" => memory::focused(*m).put(answer),
-        b"has_focus" => memory::has_focus(*m, words.number()?).put(answer),
-        b"had_focus_last_frame" => { memory::had_focus_last_frame(*m, words.number()?).put(answer) }
-        b"lost_focus" => memory::lost_focus(*m, words.number()?).put(answer),
-        b"gained_focus" => memory::gained_focus(*m, words.number()?).put(answer),
-        b"owns_ime_events" => { memory::owns_ime_events(*m, words.number()?).put(answer) }
-        b"focus_direction" => memory::focus_direction(*m).put(answer),
-        b"is_above_modal_layer" => { memory::is_above_modal_layer(*m, words.layer()?).put(answer) }
-        b"allows_interaction" => { memory::allows_interaction(*m, words.layer()?).put(answer) }
-        b"top_modal_layer" => memory::top_modal_layer(*m).put(answer),
-        b"should_interrupt_ime" => memory::should_interrupt_ime(*m).put(answer),
-        _ => query_areas(name, words, m, answer)?,
+        b"focused" => ask(words, m, answer, memory::focused),
+        b"has_focus" => ask_by_id(words, m, answer, memory::has_focus),
+        b"had_focus_last_frame" => ask_by_id(words, m, answer, memory::had_focus_last_frame),
+        b"lost_focus" => ask_by_id(words, m, answer, memory::lost_focus),
+        b"gained_focus" => ask_by_id(words, m, answer, memory::gained_focus),
+        b"owns_ime_events" => ask_by_id(words, m, answer, memory::owns_ime_events),
+        b"focus_direction" => ask(words, m, answer, memory::focus_direction),
+        b"is_above_modal_layer" => ask_by_layer(words, m, answer, memory::is_above_modal_layer),
+        b"allows_interaction" => ask_by_layer(words, m, answer, memory::allows_interaction),
+        b"top_modal_layer" => ask(words, m, answer, memory::top_modal_layer),
+        b"should_interrupt_ime" => ask(words, m, answer, memory::should_interrupt_ime),
+        b"everything_is_visible" => ask(words, m, answer, memory::everything_is_visible),
+        b"is_popup_open" => ask_by_id(words, m, answer, popups::is_popup_open),
+        b"any_popup_open" => ask(words, m, answer, popups::any_popup_open),
+        b"popup_position" => ask_by_id(words, m, answer, popups::popup_position),
+        _ => query_areas(name, words, m, answer),
     }
-    Some(())
 }
 
 fn query_areas(name: &[u8], words: &mut Words, m: &Memory, answer: &mut Answer) -> Option<()> {
     match name {
-        b"count" => memory_areas::count(*m).put(answer),
-        b"get" => memory_areas::get(*m, words.number()?).put(answer),
-        b"is_interactable" => { memory_areas::is_interactable(*m, words.layer()?).put(answer) }
+        b"count" => ask(words, m, answer, memory_areas::count),
+        b"get" => ask_by_id(words, m, answer, memory_areas::get),
+        b"is_interactable" => ask_by_layer(words, m, answer, memory_areas::is_interactable),
         b"compare_order" => {
-            memory_areas::compare_order(*m, words.layer()?, words.layer()?).put(answer)
+            let a = words.layer()?;
+            let b = words.layer()?;
+            ask(words, m, answer, |m| memory_areas::compare_order(m, a, b))
         }
-        b"layer_id_at" => memory_areas::layer_id_at(*m, words.pos()?).put(answer),
-        b"visible_last_frame" => {
-            memory_areas::visible_last_frame(*m, words.layer()?).put(answer)
+        b"layer_id_at" => {
+            let pos = words.pos()?;
+            ask(words, m, answer, |m| memory_areas::layer_id_at(m, pos))
         }
-        b"is_visible" => memory_areas::is_visible(*m, words.layer()?).put(answer),
-        b"is_sublayer" => memory_areas::is_sublayer(*m, words.layer()?).put(answer),
-        b"parent_layer" => { memory_areas::parent_layer(*m, words.layer()?).put(answer) }
-        b"top_layer_id" => { memory_areas::top_layer_id(*m, words.number()?).put(answer) }
-        b"area_rect" => { memory_areas::area_rect(*m, words.number()?).put(answer) }
-        _ => query_lists(name, words, m, answer)?,
+        b"visible_last_frame" => ask_by_layer(words, m, answer, memory_areas::visible_last_frame),
+        b"is_visible" => ask_by_layer(words, m, answer, memory_areas::is_visible),
+        b"is_sublayer" => ask_by_layer(words, m, answer, memory_areas::is_sublayer),
+        b"parent_layer" => ask_by_layer(words, m, answer, memory_areas::parent_layer),
+        b"top_layer_id" => ask_by_id(words, m, answer, memory_areas::top_layer_id),
+        b"area_rect" => ask_by_id(words, m, answer, memory_areas::area_rect),
+        b"layer_ids" => ask(words, m, answer, memory_areas::layer_ids),
+        b"visible_layer_ids" => ask(words, m, answer, memory_areas::visible_layer_ids),
+        b"visible_windows" => ask(words, m, answer, memory_areas::visible_windows),
+        b"child_layers" => ask_by_layer(words, m, answer, memory_areas::child_layers),
+        _ => stateless(name, words, answer),
     }
-    Some(())
-}
-
-fn query_lists(name: &[u8], words: &mut Words, m: &Memory, answer: &mut Answer) -> Option<()> {
-    match name {
-        b"layer_ids" => memory_areas::layer_ids(*m).put(answer),
-        b"visible_layer_ids" => memory_areas::visible_layer_ids(*m).put(answer),
-        b"visible_windows" => memory_areas::visible_windows(*m).put(answer),
-        b"child_layers" => memory_areas::child_layers(*m, words.layer()?).put(answer),
-        b"everything_is_visible" => memory::everything_is_visible(*m).put(answer),
-        b"is_popup_open" => popups::is_popup_open(*m, words.number()?).put(answer),
-        b"any_popup_open" => popups::any_popup_open(*m).put(answer),
-        b"popup_position" => { popups::popup_position(*m, words.number()?).put(answer) }
-        _ => stateless(name, words, answer)?,
-    }
-    Some(())
 }
 
 // ---- calls without state
@@ -136,9 +237,9 @@ fn stateless(name: &[u8], words: &mut Words, answer: &mut Answer) -> Option<()> 
     match name {
         b"left_top_pos" => words.state()?.left_top_pos().put(answer),
         b"rect" => words.state()?.rect().put(answer),
-        b"set_left_top_pos" => { words.state()?.set_left_top_pos(words.pos()?).put(answer) }
+        b"set_left_top_pos" => words.state()?.set_left_top_pos(words.pos()?).put(answer),
         b"matches" => words.filter()?.matches(words.event()?).put(answer),
         _ => return None,
     }
-    Some(())
+    words.end()
 }

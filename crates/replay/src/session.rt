@@ -1,10 +1,9 @@
 // What the calls leave: the memory and the registry.
 use crate::answer::Answer;
-use crate::forms::Put;
 use crate::registry::Registry;
 use crate::words::Words;
-use crate::{library, lists, memory_calls, state};
-use memory_rules::{Done, Memory};
+use crate::{lists, memory_calls, state};
+use memory_rules::Memory;
 
 #[derive(Clone, Copy)]
 pub struct Session {
@@ -36,41 +35,30 @@ impl Session {
     fn call(&mut self, line: &[u8], answer: &mut Answer) -> Option<()> {
         let mut words = Words::of(line);
         let name = words.name();
-        if let Some(done) = memory_calls::change(name, words, &self.memory) {
-            self.take(done, answer);
-            return Some(());
-        }
-        if self.registry.call(name, words, answer).is_some() {
-            return Some(());
-        }
-        answer.clear();
         match name {
             b"new" => {
                 words.end()?;
                 self.memory = memory::new();
                 self.registry.clear();
                 answer.word(b"ok");
+                Some(())
             }
-            b"begin" => {
-                let done = lists::begin(words, &self.memory)?;
-                self.take(done, answer);
-            }
-            b"end" => {
-                let done = lists::end(words, &self.memory)?;
-                self.take(done, answer);
-            }
+            b"begin" => lists::begin(&mut words, &mut self.memory, answer),
+            b"end" => lists::end(&mut words, &mut self.memory, answer),
+            b"insert"
+            | b"clear"
+            | b"order"
+            | b"widget"
+            | b"contains"
+            | b"get_layer"
+            | b"focusable_widgets_in_layer" => self.registry.call(name, &mut words, answer),
             b"state" => {
                 words.end()?;
                 state::put_memory(&self.memory, answer);
                 self.registry.put_state(answer);
+                Some(())
             }
-            _ => memory_calls::query(name, words, &self.memory, answer)?,
+            _ => memory_calls::call(name, &mut words, &mut self.memory, answer),
         }
-        Some(())
-    }
-
-    fn take(&mut self, done: Done, answer: &mut Answer) {
-        self.memory = done.memory;
-        library::done(done.refusal).put(answer);
     }
 }
