@@ -19,8 +19,8 @@ use emath::{Pos2, Rect};
 use layer_queries::LayerAnswer;
 use layer_table::Stacked;
 use layers::LayerId;
+use refusal::NONE;
 use widget_rect::WidgetRect;
-use widget_table::Inserted;
 
 // `search::find` from the rectangle left, top, right, bottom.
 #[unsafe(no_mangle)]
@@ -47,6 +47,14 @@ pub extern "C" fn jaturemi_find(
     search::find(ids, rects, focused, current, direction)
 }
 
+// By what number an insert is refused, 0 for none, and how many widgets are then held: a record for C, which has no Result.
+#[derive(Clone, Copy)]
+#[repr(C)]
+pub struct Inserted {
+    pub refusal: u64,
+    pub count: usize,
+}
+
 // `widget_table::insert`.
 #[unsafe(no_mangle)]
 pub extern "C" fn jaturemi_insert(
@@ -61,7 +69,16 @@ pub extern "C" fn jaturemi_insert(
 ) -> Inserted
     ensures { (result.refusal ≡ refusal_of (table_in count cells.old ids.old words.old rects.old) layer new) × (table_in result.count cells.new ids.new words.new rects.new ≡ insert_of (table_in count cells.old ids.old words.old rects.old) layer new move_to_top) }
 {
-    widget_table::insert(cells, ids, words, rects, count, layer, new, move_to_top)
+    match widget_table::insert(cells, ids, words, rects, count, layer, new, move_to_top) {
+        Ok(count) => Inserted {
+            refusal: NONE,
+            count,
+        },
+        Err(refused) => Inserted {
+            refusal: u64::from(refused),
+            count,
+        },
+    }
 }
 
 // `widget_table::clear`.
@@ -81,7 +98,7 @@ fn area(x: f32, y: f32, width: f32, height: f32, interactable: bool) -> AreaStat
         pivot_pos: PivotPos::At(x, y),
         pivot: Align2 { x: 0, y: 0 },
         size: Size::Of(width, height),
-        interactable: interactable,
+        interactable,
     }
 }
 

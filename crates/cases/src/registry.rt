@@ -2,10 +2,10 @@
 use crate::outcome::{last, say_list};
 use emath::{Pos2, Rect};
 use layers::LayerId;
-use refusal::{NONE, WIDGETS};
+use refusal::{Refusal, WIDGETS};
 use std::io;
 use widget_rect::WidgetRect;
-use widget_rects::{Inserted, WidgetRects};
+use widget_rects::WidgetRects;
 
 const LAYER: LayerId = LayerId { order: 1, id: 7 };
 
@@ -27,36 +27,55 @@ fn widget(id: u64) -> WidgetRect {
     }
 }
 
-fn insert(widgets: WidgetRects, id: u64, move_to_top: bool) -> Inserted {
+fn insert(widgets: WidgetRects, id: u64, move_to_top: bool) -> Result<WidgetRects, Refusal> {
     widgets.insert(LAYER, widget(id), move_to_top)
 }
 
-// Inserts the ids from 1 to 256; what the last one answers.
-fn filled(empty: WidgetRects) -> Inserted {
-    let mut now = Inserted {
-        refusal: NONE,
-        widgets: empty,
-    };
+// Inserts the ids from 1 to 256.
+fn filled(mut widgets: WidgetRects) -> Result<WidgetRects, Refusal> {
     for id in 0..WIDGETS as u64 {
-        now = insert(now.widgets, id + 1, false);
+        widgets = insert(widgets, id + 1, false)?;
     }
-    now
+    Ok(widgets)
 }
 
-// What an insert answers, and how many widgets the layer then lists.
-fn tell(rt: &impl Print, text: &str, inserted: Inserted) -> io::Result<()> {
-    let list = inserted.widgets.focusable_widgets_in_layer(LAYER);
+// What an insert into `before` answers, and how many widgets the layer then lists.
+fn tell(
+    rt: &impl Print,
+    text: &str,
+    before: WidgetRects,
+    inserted: Result<WidgetRects, Refusal>,
+) -> io::Result<()> {
+    let Ok(list) = inserted.unwrap_or(before).focusable_widgets_in_layer(LAYER) else {
+        return Ok(());
+    };
     let last = last(&list.ids, list.count).unwrap_or(0);
-    say_list(rt, text, inserted.refusal, list.count, "listed", last)
+    let checked = inserted.map(|_| ());
+    say_list(
+        rt,
+        text,
+        refusal::number(checked),
+        list.count,
+        "listed",
+        last,
+    )
 }
 
 pub fn registry(rt: &impl Print) -> io::Result<()> {
-    let full = filled(WidgetRects::new());
-    tell(rt, "the 256th widget", full)?;
-    tell(rt, "a 257th", insert(full.widgets, 257, false))?;
-    tell(rt, "the first once more", insert(full.widgets, 1, false))?;
-    tell(rt, "the first to the top", insert(full.widgets, 1, true))?;
-    let empty = full.widgets.clear();
-    tell(rt, "after clear, a new one", insert(empty, 257, false))?;
-    tell(rt, "and 256 of them", filled(empty))
+    let none = WidgetRects::new();
+    tell(rt, "the 256th widget", none, filled(none))?;
+    let Ok(full) = filled(none) else {
+        return Ok(());
+    };
+    tell(rt, "a 257th", full, insert(full, 257, false))?;
+    tell(rt, "the first once more", full, insert(full, 1, false))?;
+    tell(rt, "the first to the top", full, insert(full, 1, true))?;
+    let cleared = full.clear();
+    tell(
+        rt,
+        "after clear, a new one",
+        cleared,
+        insert(cleared, 257, false),
+    )?;
+    tell(rt, "and 256 of them", cleared, filled(cleared))
 }

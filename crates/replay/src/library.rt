@@ -9,8 +9,6 @@ use layer_queries::{FlagAnswer, LayerAnswer, OrderingAnswer};
 use layers::LayerId;
 use memory_rules::{AreaRectAnswer, PopupPos, PositionAnswer};
 use refusal::NONE;
-use widget_queries::{ContainsAnswer, OrderAnswer, WidgetAnswer};
-use widget_rect::WidgetRect;
 
 // ---- values
 
@@ -69,22 +67,6 @@ pub fn done(refusal: u64) -> Result<(), u64> {
     }
 }
 
-pub fn order(order: OrderAnswer) -> Result<Option<(LayerId, u64)>, u64> {
-    match order {
-        OrderAnswer::Is(layer, index) => Ok(Some((layer, index))),
-        OrderAnswer::Nothing => Ok(None),
-        OrderAnswer::Refused(n) => Err(n),
-    }
-}
-
-pub fn widget(widget: WidgetAnswer) -> Result<Option<WidgetRect>, u64> {
-    match widget {
-        WidgetAnswer::Is(w) => Ok(Some(w)),
-        WidgetAnswer::Nothing => Ok(None),
-        WidgetAnswer::Refused(n) => Err(n),
-    }
-}
-
 // ---- answers
 
 impl Put for FlagAnswer {
@@ -92,15 +74,6 @@ impl Put for FlagAnswer {
         match self {
             FlagAnswer::Is(b) => b.put(answer),
             FlagAnswer::Refused(n) => forms::put_refusal(n, answer),
-        }
-    }
-}
-
-impl Put for ContainsAnswer {
-    fn put(self, answer: &mut Answer) {
-        match self {
-            ContainsAnswer::Is(b) => b.put(answer),
-            ContainsAnswer::Refused(n) => forms::put_refusal(n, answer),
         }
     }
 }

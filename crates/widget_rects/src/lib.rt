@@ -1,8 +1,8 @@
 // WidgetRects of widget_rect.rs as a record by value, over the tables in place of crates `widget_rows` and `widget_table` and the queries of crate `widget_queries`.
 #![tactic(auto)]
 
-ghost use Rattle.std.specs.Prelude.{◌≡◌};
-ghost use Rattle.refusal.specs.Refusal.{answer};
+ghost use Rattle.std.specs.Prelude.{◌≡◌, IfOk};
+ghost use Rattle.refusal.specs.Refusal.{number_in};
 ghost use Rattle.widget_rows.specs.Rows.{lent, list_of};
 ghost use Rattle.widget_queries.specs.Queries.{order_answer, widget_answer, contains_answer};
 ghost use Rattle.widget_rects.specs.WidgetRects.{table_of, new_rects, inserted_of, cleared_rects, blank_widget, listing, list_answer, ids_answer};
@@ -76,7 +76,8 @@ impl WidgetRects {
         new: WidgetRect,
         move_to_top: bool,
     ) -> Result<WidgetRects, Refusal>
-        ensures { result ≡ answer (inserted_of self layer new move_to_top).refusal (inserted_of self layer new move_to_top).widgets }
+        ensures refusal { number_in result ≡ (inserted_of self layer new move_to_top).refusal }
+        ensures widgets { IfOk result (λ w. w ≡ (inserted_of self layer new move_to_top).widgets) }
     {
         self.count = widget_table::insert(
             &mut self.cells,

@@ -2,8 +2,8 @@
 // reads them. How many rows are held goes along by value.
 #![tactic(auto)]
 
-ghost use Rattle.std.specs.Prelude.{◌≡◌, ◌+◌, ◌-◌, ◌*◌, ◌≤◌, ◌<◌, length};
-ghost use Rattle.refusal.specs.Refusal.{number_in, answer};
+ghost use Rattle.std.specs.Prelude.{◌≡◌, ◌+◌, ◌-◌, ◌*◌, ◌≤◌, ◌<◌, length, IfOk};
+ghost use Rattle.refusal.specs.Refusal.{number_in};
 ghost use Rattle.tables.specs.Tables.{put_at};
 ghost use Rattle.widget_rows.specs.Rows.{rows_in, table_in};
 ghost use Rattle.widget_table.specs.Table.{full_refusal, edges_of, look_of, shared_of, push_of, remove_of, update_of, row_after, refusal_of, insert_of, cleared_cells};
@@ -121,7 +121,8 @@ pub fn insert(
     new: WidgetRect,
     move_to_top: bool,
 ) -> Result<usize, Refusal>
-    ensures count { result ≡ answer (refusal_of (table_in count cells.old ids.old words.old rects.old) layer new) (insert_of (table_in count cells.old ids.old words.old rects.old) layer new move_to_top).count }
+    ensures refusal { number_in result ≡ refusal_of (table_in count cells.old ids.old words.old rects.old) layer new }
+    ensures count { IfOk result (λ n. n ≡ (insert_of (table_in count cells.old ids.old words.old rects.old) layer new move_to_top).count) }
     ensures table { table_in (insert_of (table_in count cells.old ids.old words.old rects.old) layer new move_to_top).count cells.new ids.new words.new rects.new ≡ insert_of (table_in count cells.old ids.old words.old rects.old) layer new move_to_top }
 {
     let table = WidgetTable {
