@@ -1,11 +1,9 @@
 -- The record answers every query as egui's Memory does that it means. Assumes nothing.
 use Rattle.std.specs.Prelude.{◌≡◌, ℕ, Bool, true, false, cond, not, ◌&&◌, ◌||◌, eqb}
 use mathlib.Core.Path.{refl, sym, ap, ◌∙◌}
-use Rattle.refusal.specs.Refusal.{zero_id, id_refusal, answered}
+use Rattle.refusal.specs.Refusal.{zero_id, id_refusal, answer}
 use Rattle.refusal.specs.Refusal.{none as notRefused}
 use Rattle.layers.specs.Layers.{layer_refusal}
-use Rattle.layer_queries.specs.declared.FlagAnswer.TheVariants as Flag
-use Rattle.layer_queries.specs.Queries.{flag_answer}
 use Rattle.std.specs.Prelude.{Option, None, Some}
 use Rattle.area.specs.declared.AreaState.{AreaState}
 use Rattle.area_table.specs.Table.{held_of}
@@ -17,28 +15,23 @@ use Rattle.area_maps.proofs.Queries.{query_order, query_get}
 use Rattle.focus_rules.specs.declared.Nav.{Nav}
 use Rattle.focus_maps.specs.Egui as EguiFocus
 use Rattle.focus_maps.proofs.Means.{focused_means, is_means, focused_answer, layer_answer_lem}
-use Rattle.memory_rules.specs.declared.PositionAnswer.TheVariants as Position
-use Rattle.memory_rules.specs.declared.AreaRectAnswer.TheVariants as AreaRect
 use Rattle.memory_rules.specs.declared.Memory.{Memory}
 use Rattle.memory_rules.specs.State.{areas_of, focus_of, nav_of, popup_of}
 use Rattle.memory_rules.specs.Memory.{rect_in, area_rect, is_popup_open}
 use Rattle.memory_maps.specs.Egui as Egui
 use Rattle.memory_maps.specs.Calls.{meaning_of}
-use Rattle.memory_maps.specs.Answers.{position_of, rect_answer, FocusAnswers, LayerAnswers, PopupAnswers}
+use Rattle.memory_maps.specs.Answers.{FocusAnswers, LayerAnswers, PopupAnswers}
 use Rattle.memory_maps.proofs.Fit.{Fit}
 use Rattle.memory_maps.proofs.Layers.{above_means, allowed_means, hit_means}
 use Rattle.memory_maps.proofs.Popups.{some_means, same_means, position_means}
 
 -- an id that is 0 is refused whatever is asked of it
-asked : {A B R : Type 0} (f : A → R) (g : B → R) (refused : ℕ → R) (id : ℕ) (a : A) (b : B) → (eqb id 0 ≡ false → f a ≡ g b) → answered f refused (id_refusal id) a ≡ answered g refused (id_refusal id) b
-asked f g refused id a b h = go (eqb id 0) h
+asked : {A : Type 0} (id : ℕ) (a b : A) → (eqb id 0 ≡ false → a ≡ b) → answer (id_refusal id) a ≡ answer (id_refusal id) b
+asked id a b h = go (eqb id 0) h
   where
-    go : (t : Bool) → (t ≡ false → f a ≡ g b) → answered f refused (cond t zero_id notRefused) a ≡ answered g refused (cond t zero_id notRefused) b
+    go : (t : Bool) → (t ≡ false → a ≡ b) → answer (cond t zero_id notRefused) a ≡ answer (cond t zero_id notRefused) b
     go true h = refl
-    go false h = h refl
-
-of_id_lem : (id : ℕ) (s t : Bool) → (eqb id 0 ≡ false → s ≡ t) → flag_answer (id_refusal id) s ≡ flag_answer (id_refusal id) t
-of_id_lem id s t h = asked Flag.Is Flag.Is Flag.Refused id s t (λ k. ap Flag.Is (h k))
+    go false h = ap (answer notRefused) (h refl)
 
 module _ (m : Memory) where
   abbrev e : Egui.Memory
@@ -61,12 +54,12 @@ module _ (m : Memory) where
   pub focus_answers : FocusAnswers m e
   focus_answers = (
     focused_answer n,
-    λ id. of_id_lem id _ _ (had id),
-    λ id. of_id_lem id _ _ (has id),
-    λ id. of_id_lem id _ _ (λ h i. (had id h i || before id h i) && not (has id h i)),
-    λ id. of_id_lem id _ _ (λ h i. not (had id h i) && has id h i),
+    λ id. asked id _ _ (had id),
+    λ id. asked id _ _ (has id),
+    λ id. asked id _ _ (λ h i. (had id h i || before id h i) && not (has id h i)),
+    λ id. asked id _ _ (λ h i. not (had id h i) && has id h i),
     refl,
-    λ id. of_id_lem id _ _ (has id),
+    λ id. asked id _ _ (has id),
     refl,
   )
 
@@ -75,7 +68,7 @@ module _ (m : Memory) where
     abbrev a : Areas
     a = areas_of m
 
-    rect : (h : Option AreaState) → rect_in h ≡ rect_answer (Egui.rect_in h)
+    rect : (h : Option AreaState) → rect_in h ≡ Egui.rect_in h
     rect None = refl
     rect (Some s) = refl
 
@@ -86,19 +79,19 @@ module _ (m : Memory) where
     unfolding area_rect layers_of
     layer_answers = (
       layer_answer_lem n.top_modal_layer,
-      λ layer. ap (flag_answer (layer_refusal layer)) (above_means m fit.sound.sound layer),
-      λ layer. ap (flag_answer (layer_refusal layer)) (allowed_means m fit.sound.sound layer),
+      λ layer. ap (answer (layer_refusal layer)) (above_means m fit.sound.sound layer),
+      λ layer. ap (answer (layer_refusal layer)) (allowed_means m fit.sound.sound layer),
       λ pos. hit_means m fit.sound.sound pos,
       query_order a.placed (stack_of a) (entries_in a),
-      λ id. asked rect_in rect_answer AreaRect.Refused id _ _ (λ h. ap rect_in (state id) ∙ rect (EguiAreas.get e.areas id)),
+      λ id. asked id _ _ (λ h. ap rect_in (state id) ∙ rect (EguiAreas.get e.areas id)),
     )
 
   -- ---- the popup
   pub popup_answers : PopupAnswers m e
   unfolding is_popup_open
   popup_answers = (
-    λ id. of_id_lem id _ _ (λ h. ap (λ (b : Bool). b || m.everything_is_visible) (same_means (popup_of m) id h)),
+    λ id. asked id _ _ (λ h. ap (λ (b : Bool). b || m.everything_is_visible) (same_means (popup_of m) id h)),
     ap (λ (b : Bool). b || m.everything_is_visible) (some_means (popup_of m)),
-    λ id. asked (λ x. x) position_of Position.Refused id _ _ (position_means (popup_of m) id),
+    λ id. asked id _ _ (position_means (popup_of m) id),
     refl,
   )

@@ -1,7 +1,7 @@
 -- Each call on the record: it is refused as the table says, and leaves what is there, or else a record that means what egui's method leaves and whose parts are fit. Assumes nothing.
 use Rattle.std.specs.Prelude.{◌≡◌, ℕ, zero, suc, Bool, true, false, cond, not, ◌||◌, eqb, ltb, List, length}
 use mathlib.Core.Path.{refl, sym, ap, ◌∙◌}
-use Rattle.std.specs.Prelude.{Option}
+use Rattle.std.specs.Prelude.{Option, None}
 use native.Mathlib.Omega.{arith}
 use Rattle.refusal.specs.Refusal.{full, lowest, id_refusal, kept}
 use Rattle.refusal.specs.Refusal.{none as notRefused}
@@ -27,10 +27,8 @@ use Rattle.focus_maps.specs.Egui as EguiFocus
 use Rattle.focus_maps.specs.Calls as Focus
 use Rattle.focus_maps.proofs.Means.{id_taken}
 use Rattle.focus_maps.proofs.Holds.{refused}
-use Rattle.memory_rules.specs.declared.PopupPos.TheVariants.{Absent}
 use Rattle.memory_rules.specs.declared.Memory.{Memory}
-use Rattle.memory_rules.specs.declared.Done.{Done}
-use Rattle.memory_rules.specs.State.{areas_of, focus_of, popup_of, with_areas, with_focus, with_popup, with_ime, done_with}
+use Rattle.memory_rules.specs.State.{Done, areas_of, focus_of, popup_of, with_areas, with_focus, with_popup, with_ime, done_with}
 use Rattle.memory_rules.specs.Memory.{begun_of, ended_of, interested_of, filter_set, requested, requested_next, surrendered, ignored_of, moved, modal_set, text_stopped, popup_at, kept_open, popup_kept, is_popup_open, is_allowed, stays_modal, closed, toggled, all_closed}
 use Rattle.memory_rules.specs.Calls.{Call, Begin, Interest, End, SetFocusLockFilter, RequestFocus, RequestFocusNextFrame, SurrenderFocus, IgnoreFocus, MoveFocus, SetModalLayer, StopTextInput, ResetAreas, InterruptIme, OpenPopupAt, KeepPopupOpen, ClosePopup, TogglePopup, CloseAllPopups, SetEverythingIsVisible, SetState, MoveToTop, SetSublayer, with_stack, done_by}
 use Rattle.memory_maps.specs.Egui as Egui
@@ -197,9 +195,9 @@ module _ (m : Memory) (fit : Fit (areas_of m) (focus_of m)) where
       let (t, n) = go h (is_popup_open m id) in
       (t, n ∙ ap (λ (b : Bool). cond b (cond b (Egui.close_all_popups e) e) (Egui.open_popup e id)) (open_means id h)))
     where
-      go : id_refusal id ≡ 0 → (b : Bool) → Takes (cond b (all_closed m) (with_popup m (popup_at id Absent))) (cond b (cond b (Egui.close_all_popups e) e) (Egui.open_popup e id))
+      go : id_refusal id ≡ 0 → (b : Bool) → Takes (cond b (all_closed m) (with_popup m (popup_at id None))) (cond b (cond b (Egui.close_all_popups e) e) (Egui.open_popup e id))
       go h true = (fit, refl)
-      go h false = (fit, ap with_popups (opened_means id (id_taken id h) Absent))
+      go h false = (fit, ap with_popups (opened_means id (id_taken id h) None))
 
   -- ---- every call
   pub step : (call : Call) → Steps call (done_by call m)

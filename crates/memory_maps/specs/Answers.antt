@@ -1,58 +1,42 @@
 -- What the record answers, and what egui's Memory does: that they are the same, query by query and for every argument. Definitions only.
 use Rattle.std.specs.Prelude.{◌≡◌, ℕ}
-use Rattle.std.specs.Prelude.{Option, None, Some}
-use Rattle.refusal.specs.Refusal.{id_refusal, answered}
+use Rattle.refusal.specs.Refusal.{id_refusal, answer}
 use Rattle.emath.specs.declared.Pos2.{Pos2}
-use Rattle.emath.specs.declared.Rect.{Rect}
 use Rattle.layers.specs.declared.LayerId.{LayerId}
 use Rattle.layers.specs.Layers.{layer_refusal}
 use Rattle.layer_queries.specs.declared.Listing.TheVariants.{All}
-use Rattle.layer_queries.specs.Queries.{flag_answer}
 use Rattle.areas.specs.Areas.{layers_of}
 use Rattle.focus_rules.specs.Rules.{id_or_nothing, layer_or_nothing}
 use Rattle.focus_maps.specs.Calls.{layer_answer_of}
-use Rattle.memory_rules.specs.declared.PositionAnswer.{PositionAnswer}
-use Rattle.memory_rules.specs.declared.PositionAnswer.TheVariants as Position
-use Rattle.memory_rules.specs.declared.AreaRectAnswer.{AreaRectAnswer}
-use Rattle.memory_rules.specs.declared.AreaRectAnswer.TheVariants as AreaRect
 use Rattle.memory_rules.specs.declared.Memory.{Memory}
 use Rattle.memory_rules.specs.State.{areas_of, nav_of}
 use Rattle.memory_rules.specs.Memory.{above_answer, allows_answer, layer_id_at, had_focus, has_focus, lost_focus, gained_focus, of_id, area_rect, is_popup_open, any_popup_open, position_answer}
 use Rattle.memory_maps.specs.Egui as Egui
 
--- ---- how an answer of the port says an option
-abbrev pub position_of : Option Pos2 → PositionAnswer
-position_of None = Position.Nothing
-position_of (Some pos) = Position.Is pos
-
-abbrev pub rect_answer : Option Rect → AreaRectAnswer
-rect_answer None = AreaRect.Nothing
-rect_answer (Some rect) = AreaRect.Is rect
-
 -- ---- a query with an id is refused where the id is 0, one with a layer where that is none; the others answer always
 abbrev pub FocusAnswers : Memory → Egui.Memory → Type 0
 FocusAnswers m e =
     (id_or_nothing (nav_of m).focused ≡ Egui.focused e)
-    × ((id : ℕ) → of_id had_focus m id ≡ flag_answer (id_refusal id) (Egui.had_focus_last_frame e id))
-    × ((id : ℕ) → of_id has_focus m id ≡ flag_answer (id_refusal id) (Egui.has_focus e id))
-    × ((id : ℕ) → of_id lost_focus m id ≡ flag_answer (id_refusal id) (Egui.lost_focus e id))
-    × ((id : ℕ) → of_id gained_focus m id ≡ flag_answer (id_refusal id) (Egui.gained_focus e id))
+    × ((id : ℕ) → of_id had_focus m id ≡ answer (id_refusal id) (Egui.had_focus_last_frame e id))
+    × ((id : ℕ) → of_id has_focus m id ≡ answer (id_refusal id) (Egui.has_focus e id))
+    × ((id : ℕ) → of_id lost_focus m id ≡ answer (id_refusal id) (Egui.lost_focus e id))
+    × ((id : ℕ) → of_id gained_focus m id ≡ answer (id_refusal id) (Egui.gained_focus e id))
     × ((nav_of m).focus_direction ≡ Egui.focus_direction e)
-    × ((id : ℕ) → of_id has_focus m id ≡ flag_answer (id_refusal id) (Egui.owns_ime_events e id))
+    × ((id : ℕ) → of_id has_focus m id ≡ answer (id_refusal id) (Egui.owns_ime_events e id))
     × (m.requested_interrupt_ime ≡ Egui.should_interrupt_ime e)
 
 abbrev pub LayerAnswers : Memory → Egui.Memory → Type 0
 LayerAnswers m e =
     (layer_or_nothing (nav_of m).top_modal_layer ≡ layer_answer_of (Egui.top_modal_layer e))
-    × ((layer : LayerId) → above_answer m layer ≡ flag_answer (layer_refusal layer) (Egui.is_above_modal_layer e layer))
-    × ((layer : LayerId) → allows_answer m layer ≡ flag_answer (layer_refusal layer) (Egui.allows_interaction e layer))
+    × ((layer : LayerId) → above_answer m layer ≡ answer (layer_refusal layer) (Egui.is_above_modal_layer e layer))
+    × ((layer : LayerId) → allows_answer m layer ≡ answer (layer_refusal layer) (Egui.allows_interaction e layer))
     × ((pos : Pos2) → layer_id_at m pos ≡ layer_answer_of (Egui.layer_id_at e pos))
     × (layers_of (areas_of m) All ≡ Egui.layer_ids e)
-    × ((id : ℕ) → area_rect m id ≡ answered rect_answer AreaRect.Refused (id_refusal id) (Egui.area_rect e id))
+    × ((id : ℕ) → area_rect m id ≡ answer (id_refusal id) (Egui.area_rect e id))
 
 abbrev pub PopupAnswers : Memory → Egui.Memory → Type 0
 PopupAnswers m e =
-    ((id : ℕ) → of_id is_popup_open m id ≡ flag_answer (id_refusal id) (Egui.is_popup_open e id))
+    ((id : ℕ) → of_id is_popup_open m id ≡ answer (id_refusal id) (Egui.is_popup_open e id))
     × (any_popup_open m ≡ Egui.any_popup_open e)
-    × ((id : ℕ) → position_answer m id ≡ answered position_of Position.Refused (id_refusal id) (Egui.popup_position e id))
+    × ((id : ℕ) → position_answer m id ≡ answer (id_refusal id) (Egui.popup_position e id))
     × (m.everything_is_visible ≡ e.everything_is_visible)

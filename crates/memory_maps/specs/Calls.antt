@@ -5,7 +5,6 @@ use Rattle.refusal.specs.Refusal.{full, lowest, id_refusal, code_refusal, kept}
 use Rattle.refusal.specs.Refusal.{none as notRefused}
 use Rattle.refusal.specs.Limits.{last_direction}
 use Rattle.refusal.specs.Limits.{used as usedLimit}
-use Rattle.emath.specs.declared.Pos2.{Pos2}
 use Rattle.layers.specs.Layers.{layer_refusal}
 use Rattle.focus_cache.specs.Cache.{enlisted}
 use Rattle.focus_pass.specs.Pass.{begin_refusal}
@@ -14,24 +13,17 @@ use Rattle.area_maps.specs.Egui as EguiAreas
 use Rattle.area_maps.specs.Meaning as Areas
 use Rattle.focus_maps.specs.Calls as Focus
 use Rattle.memory_rules.specs.declared.Popup.{Popup}
-use Rattle.memory_rules.specs.declared.PopupPos.{PopupPos}
-use Rattle.memory_rules.specs.declared.PopupPos.TheVariants.{Absent, At}
 use Rattle.memory_rules.specs.declared.Memory.{Memory}
 use Rattle.memory_rules.specs.State.{areas_of, focus_of, popup_of, new_memory}
 use Rattle.memory_rules.specs.Calls.{Call, Begin, Interest, End, SetFocusLockFilter, RequestFocus, RequestFocusNextFrame, SurrenderFocus, IgnoreFocus, MoveFocus, SetModalLayer, StopTextInput, ResetAreas, InterruptIme, OpenPopupAt, KeepPopupOpen, ClosePopup, TogglePopup, CloseAllPopups, SetEverythingIsVisible, SetState, MoveToTop, SetSublayer, done_by}
 use Rattle.memory_maps.specs.Egui as Egui
 
--- ---- what the record means: a popup of id 0 is none, and its position counts only where it has one
+-- ---- what the record means: a popup of id 0 is none
 abbrev pub popup_meaning : Popup → Option Egui.OpenPopup
-popup_meaning p = cond (p.id == 0) None (Some (record { id = p.id; pos = cond p.has_pos (Some p.pos) None; open_this_frame = p.open_this_frame }))
+popup_meaning p = cond (p.id == 0) None (Some (record { id = p.id; pos = p.pos; open_this_frame = p.open_this_frame }))
 
 abbrev pub meaning_of : Memory → Egui.Memory
 meaning_of m = record { areas = Areas.meaning_of (areas_of m); focus = Focus.meaning_of (focus_of m); popup = popup_meaning (popup_of m); requested_interrupt_ime = m.requested_interrupt_ime; everything_is_visible = m.everything_is_visible }
-
--- how an argument of the port says an option
-abbrev pub position_option : PopupPos → Option Pos2
-position_option Absent = None
-position_option (At x y) = Some (record { x = x; y = y })
 
 -- ---- document 01's refusals, over egui's state: how many layers and how many cached ids there may be. Only an interest call that is let through can find the cache full
 abbrev pub refusal_of : ℕ → ℕ → Call → Egui.Memory → ℕ
@@ -75,7 +67,7 @@ egui_call (SetModalLayer layer) m = Egui.set_modal_layer m layer
 egui_call StopTextInput m = Egui.stop_text_input m
 egui_call ResetAreas m = Egui.reset_areas m
 egui_call InterruptIme m = Egui.interrupt_ime m
-egui_call (OpenPopupAt id pos) m = Egui.open_popup_at m id (position_option pos)
+egui_call (OpenPopupAt id pos) m = Egui.open_popup_at m id pos
 egui_call (KeepPopupOpen id) m = Egui.keep_popup_open m id
 egui_call (ClosePopup id) m = Egui.close_popup m id
 egui_call (TogglePopup id) m = Egui.toggle_popup m id

@@ -1,5 +1,5 @@
 -- The calls that change Memory, with their arguments, and what each leaves. Definitions only.
-use Rattle.std.specs.Prelude.{ℕ, Bool, true, List, [], ◌∷◌}
+use Rattle.std.specs.Prelude.{ℕ, Bool, Option, true, List, [], ◌∷◌}
 use Rattle.refusal.specs.Refusal.{none}
 use Rattle.area.specs.declared.AreaState.{AreaState}
 use Rattle.input.specs.declared.Event.{Event}
@@ -8,10 +8,9 @@ use Rattle.layers.specs.declared.LayerId.{LayerId}
 use Rattle.areas.specs.declared.Changed.{Changed as AreasChanged}
 use Rattle.areas.specs.Areas.{state_set, to_top_of, sublayer_set}
 use Rattle.search.specs.declared.Candidate.{Candidate}
-use Rattle.memory_rules.specs.declared.PopupPos.{PopupPos}
+use Rattle.emath.specs.declared.Pos2.{Pos2}
 use Rattle.memory_rules.specs.declared.Memory.{Memory}
-use Rattle.memory_rules.specs.declared.Done.{Done}
-use Rattle.memory_rules.specs.State.{areas_of, with_areas, with_ime, with_everything, done_with}
+use Rattle.memory_rules.specs.State.{Done, areas_of, with_areas, with_ime, with_everything, done_with}
 use Rattle.memory_rules.specs.Memory.{begun_of, ended_of, interested_of, filter_set, requested, requested_next, surrendered, ignored_of, moved, modal_set, text_stopped, areas_reset, opened_at, popup_kept, closed, toggled, all_closed}
 
 pub data Call : Type 0 where
@@ -28,7 +27,7 @@ pub data Call : Type 0 where
   StopTextInput : Call
   ResetAreas : Call
   InterruptIme : Call
-  OpenPopupAt : ℕ → PopupPos → Call
+  OpenPopupAt : ℕ → Option Pos2 → Call
   KeepPopupOpen : ℕ → Call
   ClosePopup : ℕ → Call
   TogglePopup : ℕ → Call

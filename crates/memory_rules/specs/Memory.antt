@@ -1,8 +1,10 @@
 -- Memory (memory/mod.rs, lines 786 to 1187): what each call leaves and answers, in the Rust's order but for a definition that another needs, by the definitions of its Focus and Areas, with document 01's refusals. Definitions only.
-use Rattle.std.specs.Prelude.{Option, None, Some, ℕ, Bool, true, false, not, cond, ◌&&◌, ◌||◌, List, eqb, ltb, replicate}
-use Rattle.refusal.specs.Refusal.{none, lowest, id_refusal, answered, kept}
+use Rattle.std.specs.Prelude.{Option, None, Some, Result, ℕ, Bool, true, false, not, cond, ◌&&◌, ◌||◌, List, eqb, ltb, replicate}
+use Rattle.refusal.specs.declared.Refusal.{Refusal}
+use Rattle.refusal.specs.Refusal.{none, lowest, id_refusal, answer, kept}
 use Rattle.refusal.specs.Limits.{used as usedLimit}
 use Rattle.emath.specs.declared.Pos2.{Pos2}
+use Rattle.emath.specs.declared.Rect.{Rect}
 use Rattle.emath.specs.Rect.{everything}
 use Rattle.area.specs.declared.AreaState.{AreaState}
 use Rattle.area.specs.Area.{rect_of}
@@ -11,10 +13,9 @@ use Rattle.input.specs.declared.EventFilter.{EventFilter}
 use Rattle.layers.specs.declared.LayerId.{LayerId}
 use Rattle.layers.specs.Layers.{layer_refusal}
 use Rattle.layer_rows.specs.Rows.{held_rows}
-use Rattle.layer_queries.specs.declared.FlagAnswer.{FlagAnswer}
 use Rattle.layer_queries.specs.declared.LayerAnswer.{LayerAnswer}
 use Rattle.layer_queries.specs.declared.LayerAnswer.TheVariants as Layer
-use Rattle.layer_queries.specs.Queries.{compared_by, flag_answer}
+use Rattle.layer_queries.specs.Queries.{compared_by}
 use Rattle.area_table.specs.Table.{held_of}
 use Rattle.areas.specs.declared.Areas.{Areas}
 use Rattle.areas.specs.Areas.{tables_of, pass_ended}
@@ -28,15 +29,8 @@ use Rattle.focus.specs.declared.Used.{Used}
 use Rattle.focus.specs.declared.Done.{Done as FocusDone}
 use Rattle.focus.specs.Focus as Focus
 use Rattle.memory_rules.specs.declared.Popup.{Popup}
-use Rattle.memory_rules.specs.declared.PopupPos.{PopupPos}
-use Rattle.memory_rules.specs.declared.PopupPos.TheVariants.{Absent, At}
 use Rattle.memory_rules.specs.declared.Memory.{Memory}
-use Rattle.memory_rules.specs.declared.Done.{Done}
-use Rattle.memory_rules.specs.declared.PositionAnswer.{PositionAnswer}
-use Rattle.memory_rules.specs.declared.PositionAnswer.TheVariants as Position
-use Rattle.memory_rules.specs.declared.AreaRectAnswer.{AreaRectAnswer}
-use Rattle.memory_rules.specs.declared.AreaRectAnswer.TheVariants as AreaRect
-use Rattle.memory_rules.specs.State.{areas_of, focus_of, nav_of, popup_of, with_areas, with_focus, with_popup, with_ime, done_with, no_popup}
+use Rattle.memory_rules.specs.State.{Done, areas_of, focus_of, nav_of, popup_of, with_areas, with_focus, with_popup, with_ime, done_with, no_popup}
 
 -- what a call of the focus leaves of the memory
 abbrev pub with_done : Memory → FocusDone → Done
@@ -48,7 +42,7 @@ begun_of m events = let r = Focus.begun_with (focus_of m) events in done_with r.
 
 -- ---- end_pass (811 to 824): a popup that was not opened or kept in the pass is gone
 abbrev pub popup_ended : Popup → Popup
-popup_ended p = cond p.open_this_frame (record { id = p.id; has_pos = p.has_pos; pos = p.pos; open_this_frame = false }) no_popup
+popup_ended p = cond p.open_this_frame (record { id = p.id; pos = p.pos; open_this_frame = false }) no_popup
 
 unfoldable pub ended_of : Memory → List Candidate → Done
 ended_of m used =
@@ -69,8 +63,8 @@ is_below m a b = eqb (compared_by (held_rows (areas_of m).placed (areas_of m).ro
 unfoldable pub is_above : Memory → LayerId → Bool
 is_above m layer = let modal = (nav_of m).top_modal_layer in eqb modal.id 0 || not (is_below m layer modal)
 
-abbrev pub above_answer : Memory → LayerId → FlagAnswer
-above_answer m layer = flag_answer (layer_refusal layer) (is_above m layer)
+abbrev pub above_answer : Memory → LayerId → Result Bool Refusal
+above_answer m layer = answer (layer_refusal layer) (is_above m layer)
 
 -- ---- allows_interaction (977 to 981), with Order::allow_interaction of layers.rs: true for all five
 abbrev pub order_allows : ℕ → Bool
@@ -79,8 +73,8 @@ order_allows order = true
 unfoldable pub is_allowed : Memory → LayerId → Bool
 is_allowed m layer = is_above m layer && order_allows layer.order
 
-abbrev pub allows_answer : Memory → LayerId → FlagAnswer
-allows_answer m layer = flag_answer (layer_refusal layer) (is_allowed m layer)
+abbrev pub allows_answer : Memory → LayerId → Result Bool Refusal
+allows_answer m layer = answer (layer_refusal layer) (is_allowed m layer)
 
 -- ---- layer_id_at (843 to 850)
 abbrev pub unless_below : Memory → LayerAnswer → LayerAnswer
@@ -104,8 +98,8 @@ lost_focus m id = (had_focus m id || eqb (nav_of m).id_two_frames_ago id) && not
 abbrev pub gained_focus : Memory → ℕ → Bool
 gained_focus m id = not (had_focus m id) && has_focus m id
 
-abbrev pub of_id : (Memory → ℕ → Bool) → Memory → ℕ → FlagAnswer
-of_id query m id = flag_answer (id_refusal id) (query m id)
+abbrev pub of_id : (Memory → ℕ → Bool) → Memory → ℕ → Result Bool Refusal
+of_id query m id = answer (id_refusal id) (query m id)
 
 -- ---- set_focus_lock_filter, request_focus, request_focus_next_frame, surrender_focus, ignore_focus, move_focus (908 to 957)
 unfoldable pub filter_set : Memory → ℕ → EventFilter → Done
@@ -157,17 +151,16 @@ emptied a = record { count = 0; placed = 0; states = 0; rows = a.rows; ids = a.i
 abbrev pub areas_reset : Memory → Memory
 areas_reset m = with_areas m (emptied (areas_of m))
 
-abbrev pub rect_in : Option AreaState → AreaRectAnswer
-rect_in None = AreaRect.Nothing
-rect_in (Some s) = AreaRect.Is (rect_of s)
+abbrev pub rect_in : Option AreaState → Option Rect
+rect_in None = None
+rect_in (Some s) = Some (rect_of s)
 
-unfoldable pub area_rect : Memory → ℕ → AreaRectAnswer
-area_rect m id = let a = areas_of m in answered rect_in AreaRect.Refused (id_refusal id) (held_of (mapOf a) a.states 0 id)
+unfoldable pub area_rect : Memory → ℕ → Result (Option Rect) Refusal
+area_rect m id = let a = areas_of m in answer (id_refusal id) (rect_in (held_of (mapOf a) a.states 0 id))
 
 -- ---- the popup (1089 to 1166); one of id 0 is none
-abbrev pub popup_at : ℕ → PopupPos → Popup
-popup_at id Absent = record { id = id; has_pos = false; pos = no_popup.pos; open_this_frame = true }
-popup_at id (At x y) = record { id = id; has_pos = true; pos = record { x = x; y = y }; open_this_frame = true }
+abbrev pub popup_at : ℕ → Option Pos2 → Popup
+popup_at id pos = record { id = id; pos = pos; open_this_frame = true }
 
 unfoldable pub is_popup_open : Memory → ℕ → Bool
 is_popup_open m id = eqb (popup_of m).id id || m.everything_is_visible
@@ -175,23 +168,23 @@ is_popup_open m id = eqb (popup_of m).id id || m.everything_is_visible
 abbrev pub any_popup_open : Memory → Bool
 any_popup_open m = not (eqb (popup_of m).id 0) || m.everything_is_visible
 
-abbrev pub opened_at : Memory → ℕ → PopupPos → Done
+abbrev pub opened_at : Memory → ℕ → Option Pos2 → Done
 opened_at m id pos = done_with (id_refusal id) m (with_popup m (popup_at id pos))
 
 abbrev pub opened : Memory → ℕ → Done
-opened m id = opened_at m id Absent
+opened m id = opened_at m id None
 
 abbrev pub kept_open : Popup → Popup
-kept_open p = record { id = p.id; has_pos = p.has_pos; pos = p.pos; open_this_frame = true }
+kept_open p = record { id = p.id; pos = p.pos; open_this_frame = true }
 
 unfoldable pub popup_kept : Memory → ℕ → Done
 popup_kept m id = done_with (id_refusal id) m (cond (eqb (popup_of m).id id) (with_popup m (kept_open (popup_of m))) m)
 
-abbrev pub position_in : Popup → ℕ → PositionAnswer
-position_in p id = cond (eqb p.id id && p.has_pos) (Position.Is p.pos) Position.Nothing
+abbrev pub position_in : Popup → ℕ → Option Pos2
+position_in p id = cond (eqb p.id id) p.pos None
 
-abbrev pub position_answer : Memory → ℕ → PositionAnswer
-position_answer m id = answered (λ a. a) Position.Refused (id_refusal id) (position_in (popup_of m) id)
+abbrev pub position_answer : Memory → ℕ → Result (Option Pos2) Refusal
+position_answer m id = answer (id_refusal id) (position_in (popup_of m) id)
 
 abbrev pub all_closed : Memory → Memory
 all_closed m = with_popup m no_popup
@@ -200,4 +193,4 @@ unfoldable pub closed : Memory → ℕ → Done
 closed m id = done_with (id_refusal id) m (cond (is_popup_open m id) (all_closed m) m)
 
 unfoldable pub toggled : Memory → ℕ → Done
-toggled m id = done_with (id_refusal id) m (cond (is_popup_open m id) (all_closed m) (with_popup m (popup_at id Absent)))
+toggled m id = done_with (id_refusal id) m (cond (is_popup_open m id) (all_closed m) (with_popup m (popup_at id None)))

@@ -1,8 +1,7 @@
 -- Memory (memory/mod.rs, lines 31 to 125) with one viewport: its parts, and the record of them that the fields and the lent tables are. Definitions only.
-use Rattle.std.specs.Prelude.{ℕ, Bool, false, List}
-use Rattle.std.specs.Float.{binary32}
-use Rattle.std.specs.Float.Ieee.{of_bits}
-use Rattle.refusal.specs.Refusal.{kept}
+use Rattle.std.specs.Prelude.{ℕ, Bool, false, List, Option, None, Result, Ok, Err}
+use Rattle.refusal.specs.declared.Refusal.{Refusal}
+use Rattle.refusal.specs.Refusal.{none, number_of, kept}
 use Rattle.areas.specs.declared.Areas.{Areas}
 use Rattle.areas.specs.Areas.{new_areas}
 use Rattle.area_table.specs.Table.{Table}
@@ -14,8 +13,6 @@ use Rattle.memory_rules.specs.declared.Popup.{Popup}
 use Rattle.memory_rules.specs.declared.Viewport.{Viewport}
 use Rattle.memory_rules.specs.declared.Memory.{Memory}
 use Rattle.memory_rules.specs.declared.Fields.{Fields}
-use Rattle.memory_rules.specs.declared.Done.{Done}
-use Rattle.memory_rules.specs.declared.Changed.{Changed}
 
 -- ---- the parts
 abbrev pub areas_of : Memory → Areas
@@ -46,13 +43,18 @@ with_ime m ime = record { viewport = m.viewport; requested_interrupt_ime = ime; 
 abbrev pub with_everything : Memory → Bool → Memory
 with_everything m all = record { viewport = m.viewport; requested_interrupt_ime = m.requested_interrupt_ime; everything_is_visible = all }
 
--- a call's refusal, and what it leaves: where it is refused, what was there before
+-- what a call leaves, and its refusal
+pub record Done : Type 0 where
+  pub memory : Memory
+  pub refusal : ℕ
+
+-- where a call is refused it leaves what was there before
 abbrev pub done_with : ℕ → Memory → Memory → Done
 done_with refusal before after = record { memory = kept refusal before after; refusal = refusal }
 
 -- ---- no popup; a new memory
 abbrev pub no_popup : Popup
-no_popup = record { id = 0; has_pos = false; pos = record { x = of_bits binary32 0; y = of_bits binary32 0 }; open_this_frame = false }
+no_popup = record { id = 0; pos = None; open_this_frame = false }
 
 unfoldable pub new_memory : Memory
 new_memory = record { viewport = record { areas = new_areas; focus = new_focus; popup = no_popup }; requested_interrupt_ime = false; everything_is_visible = false }
@@ -67,8 +69,14 @@ focus_in f cache = record { nav = f.nav; ids = cache.ids; rects = cache.rects; c
 abbrev pub memory_of : Fields → List ℕ → Table → Cache → Memory
 memory_of f rows map cache = record { viewport = record { areas = areas_in f rows map; focus = focus_in f cache; popup = f.popup }; requested_interrupt_ime = f.requested_interrupt_ime; everything_is_visible = f.everything_is_visible }
 
-abbrev pub done_of : Changed → List ℕ → Table → Cache → Done
-done_of r rows map cache = record { memory = memory_of r.fields rows map cache; refusal = r.refusal }
+-- what a call has left: by the memory or the fields that it answers where it is taken, and those that were there before where it is refused
+abbrev pub done_by_value : Memory → Result Memory Refusal → Done
+done_by_value before (Ok after) = record { memory = after; refusal = none }
+done_by_value before (Err r) = record { memory = before; refusal = number_of r }
+
+abbrev pub done_of : Fields → Result Fields Refusal → List ℕ → Table → Cache → Done
+done_of before (Ok after) rows map cache = record { memory = memory_of after rows map cache; refusal = none }
+done_of before (Err r) rows map cache = record { memory = memory_of before rows map cache; refusal = number_of r }
 
 abbrev pub fields_of : Memory → Fields
 fields_of m = record { nav = nav_of m; cached = (focus_of m).count; slot = (focus_of m).slot; layers = (areas_of m).count; placed = (areas_of m).placed; states = (areas_of m).states; popup = popup_of m; requested_interrupt_ime = m.requested_interrupt_ime; everything_is_visible = m.everything_is_visible }
