@@ -19,9 +19,10 @@ use Rattle.grid.specs.Grid.{within, pivot_refusal, side_refusal}
 use Rattle.grid.proofs.Accepted.{within_count, side_count}
 use Rattle.gui_rounding.specs.GuiRounding.{round_ui, half_away}
 use Rattle.gui_rounding.proofs.Grid.{round_ui_count}
+use Rattle.std.specs.Prelude.{Option, None, Some}
+use Rattle.emath.specs.declared.Vec2.{Vec2}
 use Rattle.area.specs.declared.AreaState.{AreaState}
 use Rattle.area.specs.declared.PivotPos.{PivotPos}
-use Rattle.area.specs.declared.Size.{Size}
 use Rattle.area.specs.Area.{nil, position_of, extent_of, to_factor, left_top, rect_of, low_edge, high_edge, pivot_pos_at, size_at, state_refusal}
 
 -- factor times size: f * n steps of 1 / 64
@@ -157,9 +158,9 @@ positions : (p : PivotPos) → pivot_pos_at p ≡ none → (pivot_refusal (posit
 positions PivotPos.Absent h = (nil_position, nil_position)
 positions (PivotPos.At x y) h = both_none (pivot_refusal x) (pivot_refusal y) h
 
-sizes : (s : Size) → size_at s ≡ none → (side_refusal (extent_of s).x ≡ none) × (side_refusal (extent_of s).y ≡ none)
-sizes Size.Absent h = (nil_size, nil_size)
-sizes (Size.Of x y) h = both_none (side_refusal x) (side_refusal y) h
+sizes : (s : Option Vec2) → size_at s ≡ none → (side_refusal (extent_of s).x ≡ none) × (side_refusal (extent_of s).y ≡ none)
+sizes None h = (nil_size, nil_size)
+sizes (Some v) h = both_none (side_refusal v.x) (side_refusal v.y) h
 
 module _ (s : AreaState) (taken : state_refusal s ≡ none) (p q : ℤ) (w h : ℕ) (P : count_of 64 (position_of s.pivot_pos).x ≡ at p) (Q : count_of 64 (position_of s.pivot_pos).y ≡ at q)
     (W : count_of 32 (extent_of s.size).x ≡ at (pos w)) (H : count_of 32 (extent_of s.size).y ≡ at (pos h)) where

@@ -1,5 +1,5 @@
 -- AreaState of containers/area.rs (lines 18 to 88 of the Rust), without `last_became_visible_at` and `load`, in IEEE 754; Align::to_factor is emath's. Definitions only.
-use Rattle.std.specs.Prelude.{ℕ, zero, suc, ◌*◌, ℤ, pos, ◌+ℤ◌, ◌-ℤ◌, true, Float}
+use Rattle.std.specs.Prelude.{ℕ, zero, suc, ◌*◌, ℤ, pos, ◌+ℤ◌, ◌-ℤ◌, true, Float, Option, None, Some}
 use Rattle.std.specs.Float.{binary32}
 use Rattle.std.specs.Float.Ieee.{add, sub, mul, of_bits}
 use Rattle.refusal.specs.Refusal.{lowest, code_refusal}
@@ -13,7 +13,6 @@ use Rattle.emath.specs.Pos2.{round_pos}
 use Rattle.emath.specs.Rect.{from_min_size, round_rect}
 use Rattle.grid.specs.Grid.{pivot_pos_refusal, size_refusal}
 use Rattle.area.specs.declared.PivotPos.{PivotPos}
-use Rattle.area.specs.declared.Size.{Size}
 use Rattle.area.specs.declared.AreaState.{AreaState}
 
 abbrev pub nil : Float
@@ -24,9 +23,9 @@ abbrev pub position_of : PivotPos → Pos2
 position_of PivotPos.Absent = record { x = nil; y = nil }
 position_of (PivotPos.At x y) = record { x = x; y = y }
 
-abbrev pub extent_of : Size → Vec2
-extent_of Size.Absent = record { x = nil; y = nil }
-extent_of (Size.Of x y) = record { x = x; y = y }
+abbrev pub extent_of : Option Vec2 → Vec2
+extent_of None = record { x = nil; y = nil }
+extent_of (Some v) = v
 
 -- Align::to_factor by its code: 0 low, 1 middle, 2 high. A code past 2 stands for 2
 unfoldable pub to_factor : ℕ → Float
@@ -36,7 +35,7 @@ to_factor (suc (suc n)) = of_bits binary32 0x3f80_0000
 
 -- AreaState::default()
 abbrev pub default_state : AreaState
-default_state = record { pivot_pos = PivotPos.Absent; pivot = record { x = 0; y = 0 }; size = Size.Absent; interactable = true }
+default_state = record { pivot_pos = PivotPos.Absent; pivot = record { x = 0; y = 0 }; size = None; interactable = true }
 
 -- left_top_pos: the pivot position minus factor times size, rounded
 unfoldable pub left_top : AreaState → Pos2
@@ -73,9 +72,9 @@ abbrev pub pivot_pos_at : PivotPos → ℕ
 pivot_pos_at PivotPos.Absent = 0
 pivot_pos_at (PivotPos.At x y) = pivot_pos_refusal x y
 
-abbrev pub size_at : Size → ℕ
-size_at Size.Absent = 0
-size_at (Size.Of x y) = size_refusal x y
+abbrev pub size_at : Option Vec2 → ℕ
+size_at None = 0
+size_at (Some v) = size_refusal v.x v.y
 
 unfoldable pub state_refusal : AreaState → ℕ
 state_refusal s = lowest (lowest (code_refusal s.pivot.x last_pivot) (code_refusal s.pivot.y last_pivot)) (lowest (pivot_pos_at s.pivot_pos) (size_at s.size))

@@ -20,13 +20,6 @@ pub enum PivotPos {
     At(f32, f32),
 }
 
-// Option<Vec2>: how large the area was.
-#[derive(Clone, Copy)]
-pub enum Size {
-    Absent,
-    Of(f32, f32),
-}
-
 // Where on the area the pivot is, a code for each axis: 0 low, 1 middle, 2 high. Any code is legal: document 01 refuses those past 2.
 #[derive(Clone, Copy)]
 pub struct Align2 {
@@ -38,7 +31,7 @@ pub struct Align2 {
 pub struct AreaState {
     pub pivot_pos: PivotPos,
     pub pivot: Align2,
-    pub size: Size,
+    pub size: Option<Vec2>,
     pub interactable: bool,
 }
 
@@ -51,13 +44,10 @@ fn position(p: PivotPos) -> Pos2
     }
 }
 
-fn extent(s: Size) -> Vec2
-    ensures { result ≡ extent_of s }
+fn extent(size: Option<Vec2>) -> Vec2
+    ensures { result ≡ extent_of size }
 {
-    match s {
-        Size::Absent => Vec2 { x: 0.0, y: 0.0 },
-        Size::Of(x, y) => Vec2 { x, y },
-    }
+    size.unwrap_or(Vec2 { x: 0.0, y: 0.0 })
 }
 
 fn to_factor(code: u64) -> f32
@@ -79,13 +69,10 @@ fn check_pivot_pos(p: PivotPos) -> Result<(), Refusal>
     }
 }
 
-fn check_size(s: Size) -> Result<(), Refusal>
-    ensures { number_in result ≡ size_at s }
+fn check_size(size: Option<Vec2>) -> Result<(), Refusal>
+    ensures { number_in result ≡ size_at size }
 {
-    match s {
-        Size::Absent => Ok(()),
-        Size::Of(x, y) => grid::size(x, y),
-    }
+    size.map_or(Ok(()), |v| grid::size(v.x, v.y))
 }
 
 impl AreaState {
@@ -95,7 +82,7 @@ impl AreaState {
         AreaState {
             pivot_pos: PivotPos::Absent,
             pivot: Align2 { x: 0, y: 0 },
-            size: Size::Absent,
+            size: None,
             interactable: true,
         }
     }

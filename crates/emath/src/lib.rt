@@ -42,7 +42,7 @@ pub fn max(a: f32, b: f32) -> f32
     if a < b || a.is_nan() { b } else { a }
 }
 
-// f32::min: of a NaN and a number, the number. Of two zeros it is the first; std's leaves that open.
+// f32::min: of a NaN and a number, the number. Of two zeros it is the first; std's leaves that open. The mirror of `max`: a line each, which one function with a test handed over would not make plainer.
 #[tactic(auto, unfolding(crate::specs::Range::min_f))]
 pub fn min(a: f32, b: f32) -> f32
     ensures { result ≡ min_f a b }

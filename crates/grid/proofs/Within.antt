@@ -3,18 +3,18 @@ use mathlib.Core.Path.{◌≡◌, refl, sym, ap, ◌∙◌, subst}
 use Prim.Native.Nat.{ℕ, zero, suc, ◌+◌, ◌*◌, ◌/◌, ◌%◌, ◌^◌, ◌≤◌, ◌<◌}
 use native.Mathlib.Nat.{mul_right_comm, mul-le-mul_right, mul-lt-mul_of_pos_right, le_trans, le_of_eq, lt_of_le_of_lt, lt_of_mul-lt-mul_right, div-add-mod', add-zero, div-lt_iff_lt-mul, lt-suc_self, le_of_suc-le-suc}
 use native.Mathlib.Omega.{arith}
-use mathlib.Core.Bool.{Bool, true, false, cond}
+use mathlib.Core.Bool.{Bool, true, false, cond, ◌&&◌}
 use lib.IntN.{ℤ, pos, nat_abs}
-use lib.Dec.{T, leb, eqb, lit<}
+use lib.Dec.{T, leb, eqb, lit<, lit≤}
 use lib.Pow.{pow_pos, pow-add, pow_mono}
-use lib.Ieee.{Float, nan, inf, fin, binary32, up, down, add, sub, mul, neg, lt, le, eq, fits}
+use lib.Ieee.{Float, nan, inf, fin, binary32, up, down, add, sub, mul, neg, lt, le, eq, fits, of_bits}
 use lib.Ieee.Fits.{down_pos}
 use borrow.Author.Tests.{leb-true, leb-false, eqb-true, le-leb, lt-leb}
 use Rattle.floats.specs.Count.{signed, off, at, count_of}
 use Rattle.floats.proofs.Plain.{nil, power, below_nil, not_below_nil, some_digits, le_power}
 use Rattle.floats.proofs.Sign.{size_signed}
 use Rattle.floats.proofs.Held.{zero_exponent, unsigned}
-use Rattle.grid.specs.Grid.{on_grid, within}
+use Rattle.grid.specs.Grid.{taken_by, on_grid, within, corner_refusal, pivot_refusal}
 use Rattle.grid.proofs.Product.{times}
 use Rattle.grid.proofs.Whole.{big, whole_test}
 
@@ -112,13 +112,20 @@ module _ (k w : ℕ) (K : w + k ≤ 23) where
   within_is zeros (fin s zero e) f = subst (λ (d : ℤ). within (2 ^ k) (2 ^ w) (fin s 0 d) ≡ code k w (fin s 0 d)) (sym (zero_exponent s e f)) (zeros s)
   within_is zeros (fin s (suc m) e) f = above_zero s m e f
 
-  -- ---- the answers, with the size and the test as calls gave them
-  module _ (zeros : ZerosTaken k w) (x : Float) (f : T (fits binary32 x)) (size : Float) (e : size ≡ abs_f x) where
-    by_code : within (2 ^ k) (2 ^ w) x ≡ cond (le size (power w)) (cond (whole_f (mul binary32 size (power k))) 0 3) 3
-    by_code = within_is zeros x f ∙ ap (λ (z : Float). cond (le z (power w)) (cond (whole_f (mul binary32 z (power k))) 0 3) 3) (sym e)
+  -- ---- the test of the code
+  both : (a b : Bool) → ◌≡◌ {A = ℕ} (cond (a && b) 0 3) (cond a (cond b 0 3) 3)
+  both true b = refl
+  both false b = refl
 
-    pub near : (b t : Bool) → le size (power w) ≡ true → t ≡ whole_f (mul binary32 size (power k)) → t ≡ b → cond b 0 3 ≡ within (2 ^ k) (2 ^ w) x
-    near b t h g l = sym (by_code ∙ (λ i. cond (h i) (cond ((sym g ∙ l) i) 0 3) 3))
+  pub by_test : ZerosTaken k w → (x : Float) → T (fits binary32 x) → cond (taken_by x (power w) (power k)) 0 3 ≡ within (2 ^ k) (2 ^ w) x
+  unfolding of_bits
+  by_test zeros x f = both (le (abs_f x) (power w)) (whole_f (mul binary32 (abs_f x) (power k))) ∙ sym (within_is zeros x f)
 
-    pub far : le size (power w) ≡ false → 3 ≡ within (2 ^ k) (2 ^ w) x
-    far h = sym (by_code ∙ ap (λ (t : Bool). cond t (cond (whole_f (mul binary32 size (power k))) 0 3) 3) h)
+-- 2 ^ 14 and 2 ^ 5, 2 ^ 15 and 2 ^ 6 as the code has them
+pub corner_taken : (x : Float) → T (fits binary32 x) → cond (taken_by x (of_bits binary32 0x4680_0000) (of_bits binary32 0x4200_0000)) 0 3 ≡ corner_refusal x
+unfolding of_bits
+corner_taken = by_test 5 14 (lit≤ tt) corner_zeros
+
+pub pivot_taken : (x : Float) → T (fits binary32 x) → cond (taken_by x (of_bits binary32 0x4700_0000) (of_bits binary32 0x4280_0000)) 0 3 ≡ pivot_refusal x
+unfolding of_bits
+pivot_taken = by_test 6 15 (lit≤ tt) pivot_zeros

@@ -2,12 +2,12 @@
 // Any f32 goes in, NaN and the infinities too.
 #![tactic(auto)]
 
-ghost use Rattle.std.specs.Prelude.{◌≡◌, ℕ, ◌*◌, ◌≤◌, ℤ, pos, nat_abs, Float};
+ghost use Rattle.std.specs.Prelude.{◌≡◌, cond, ℕ, ◌*◌, ◌≤◌, ℤ, pos, nat_abs, Float};
 ghost use Rattle.std.specs.Float.{binary32};
 ghost use Rattle.std.specs.Float.Ieee.{of_bits, add, sub, eq};
-ghost use Rattle.refusal.specs.Refusal.{none, number_in};
+ghost use Rattle.refusal.specs.Refusal.{none, off_grid, number_in};
 ghost use Rattle.floats.specs.Count.{at, count_of};
-ghost use Rattle.grid.specs.Grid.{magnitude_of, within, corner_refusal, pivot_refusal, side_refusal, pos_refusal, pivot_pos_refusal, size_refusal, crossed, rect_refusal, axis_taken};
+ghost use Rattle.grid.specs.Grid.{magnitude_of, whole_by, taken_by, within, corner_refusal, pivot_refusal, side_refusal, pos_refusal, pivot_pos_refusal, size_refusal, crossed, rect_refusal, axis_taken};
 
 use emath::{Pos2, Rect};
 use refusal::Refusal;
@@ -21,35 +21,37 @@ pub fn magnitude(x: f32) -> f32
 
 // Whether y, from 0 to 2^23, is a whole number: a sum from 2^23 on has no room for a fraction.
 fn is_whole(y: f32) -> bool
-    ensures { result ≡ eq (sub binary32 (add binary32 y (of_bits binary32 0x4b00_0000)) (of_bits binary32 0x4b00_0000)) y }
+    ensures { result ≡ whole_by y }
 {
     (y + 8388608.0) - 8388608.0 == y
+}
+
+// Whether x is a whole number of steps within ±bound, for so many steps to 1.
+fn is_taken(x: f32, bound: f32, steps: f32) -> bool
+    ensures { result ≡ taken_by x bound steps }
+{
+    let size = magnitude(x);
+    size <= bound && is_whole(size * steps)
+}
+
+fn on_grid(taken: bool) -> Result<(), Refusal>
+    ensures { number_in result ≡ cond taken none off_grid }
+{
+    if taken { Ok(()) } else { Err(Refusal::OffGrid) }
 }
 
 // One coordinate of a corner: a multiple of 1/32 within ±16,384.
 pub fn corner(x: f32) -> Result<(), Refusal>
     ensures { number_in result ≡ corner_refusal x }
 {
-    let size = magnitude(x);
-    if size <= 16384.0 {
-        if is_whole(size * 32.0) {
-            return Ok(());
-        }
-    }
-    Err(Refusal::OffGrid)
+    on_grid(is_taken(x, 16384.0, 32.0))
 }
 
 // One coordinate of a pivot position: a multiple of 1/64 within ±32,768.
 fn pivot(x: f32) -> Result<(), Refusal>
     ensures { number_in result ≡ pivot_refusal x }
 {
-    let size = magnitude(x);
-    if size <= 32768.0 {
-        if is_whole(size * 64.0) {
-            return Ok(());
-        }
-    }
-    Err(Refusal::OffGrid)
+    on_grid(is_taken(x, 32768.0, 64.0))
 }
 
 // A width or a height: a multiple of 1/32 from 0 to 16,384. From 2^18 on every f32 is a multiple of 1/32.

@@ -2,7 +2,7 @@
 use mathlib.Core.Path.{◌≡◌, refl, sym, ap, ◌∙◌}
 use Prim.Native.Nat.{ℕ, zero, suc, ◌≤◌, ◌<◌}
 use native.Mathlib.Omega.{arith}
-use Rattle.refusal.specs.Refusal.{number_of, number_in, numbered, lowest, answer, answered}
+use Rattle.refusal.specs.Refusal.{bad_family, number_of, number_in, numbered, lowest, answer, answered}
 use Rattle.refusal.specs.declared.Refusal.{Refusal}
 use Rattle.std.specs.Prelude.{Result, Ok, Err, is_err}
 use mathlib.Core.Bool.{true, false, true≢false}
@@ -54,6 +54,10 @@ module _ (r s : Refusal) where
 
 pub numbered_back : (r : Refusal) → numbered (number_of r) ≡ r
 numbered_back r = grind arith
+
+-- each number of the table is a refusal's
+pub told : {A : Type 0} (a : A) (n : ℕ) → n ≤ bad_family → number_in (answer n a) ≡ n
+told a n h = grind arith
 
 -- ---- a check that is only asked whether it refuses
 pub no_error : (checked : Result Unit Refusal) → is_err checked ≡ false → number_in checked ≡ 0

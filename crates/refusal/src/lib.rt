@@ -1,8 +1,8 @@
 // The refusals of document 01 and the limits behind them, each under one name (those that code uses so far), and how refusals join.
 #![tactic(auto)]
 
-ghost use Rattle.std.specs.Prelude.{◌≡◌};
-ghost use Rattle.refusal.specs.Refusal.{number_of, number_in, lowest, id_refusal, code_refusal};
+ghost use Rattle.std.specs.Prelude.{◌≡◌, ◌≤◌, ℕ};
+ghost use Rattle.refusal.specs.Refusal.{bad_family, number_of, number_in, answer, lowest, id_refusal, code_refusal};
 
 // Why a call is refused: an id is 0, a code passes the last of its kind, a number is off its grid, corners or a size are the wrong way round, a list
 // is too long or names an id twice, a table has no place left, a widget's record is of another layer than the call, parent and child cannot be a pair, a pair does not fit the other pairs.
@@ -85,6 +85,11 @@ pub fn check_code(code: u64, last: u64) -> Result<(), Refusal>
         Ok(())
     }
 }
+
+// An answer by a number of the table tells that number, so a contract that says `answer n` says by what number the call is refused. There is nothing to run.
+pub fn answer_tells_number<A>()
+    ensures { (a : A) (n : ℕ) → n ≤ bad_family → number_in (answer n a) ≡ n }
+{}
 
 // A call is accepted, an id is 0, a code passes the last of its kind, a number is off its grid, corners or a size are the wrong way round, a
 // list is too long or names an id twice, a table has no place left, a widget's record is of another layer than the call, parent and child cannot be a pair, a pair does not fit the other pairs.

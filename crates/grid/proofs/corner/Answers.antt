@@ -1,21 +1,9 @@
 -- `grid::corner` meets its contract. Assumes nothing.
-use mathlib.Core.Path.{sym, subst}
-use mathlib.Core.Bool.{true, false}
-use lib.Dec.{T, lit≤}
-use lib.Ieee.{of_bits}
-use Rattle.grid.proofs.Within.{corner_zeros, near, far}
+use mathlib.Core.Path.{sym, ap, ◌∙◌, subst}
+use mathlib.Core.Bool.{Bool, cond}
+use lib.Dec.{T}
+use Rattle.grid.proofs.Within.{corner_taken}
 use Rattle.grid.proofs.corner.Goals as goal
 
-pub returns-then-is_whole : goal.returns-then-is_whole
-unfolding of_bits
-returns-then-is_whole c =
-    near 5 14 (lit≤ tt) corner_zeros _ (subst T (sym c.well_formed.0.1) tt) _ c.magnitude-size.ensures true _ c.if-size.true c.is_whole.ensures c.if-is_whole.true
-
-pub returns-else-is_whole : goal.returns-else-is_whole
-unfolding of_bits
-returns-else-is_whole c =
-    near 5 14 (lit≤ tt) corner_zeros _ (subst T (sym c.well_formed.0.1) tt) _ c.magnitude-size.ensures false _ c.if-size.true c.is_whole.ensures c.if-is_whole.false
-
-pub returns-else-size : goal.returns-else-size
-unfolding of_bits
-returns-else-size c = far 5 14 (lit≤ tt) corner_zeros _ (subst T (sym c.well_formed.0.1) tt) _ c.magnitude-size.ensures c.if-size.false
+pub returns : goal.returns
+returns c = c.on_grid.ensures ∙ ap (λ (t : Bool). cond t 0 3) c.is_taken.ensures ∙ corner_taken _ (subst T (sym c.well_formed.0.1) tt)
