@@ -5,11 +5,11 @@ ghost use Rattle.std.specs.Prelude.{◌≡◌, ◌+◌, max, ◌<◌, length, If
 ghost use Rattle.refusal.specs.Refusal.{number_in, kept};
 ghost use Rattle.stacking.specs.Lists.{some};
 ghost use Rattle.layer_rows.specs.declared.Row.{Row};
-ghost use Rattle.layer_rows.specs.Rows.{held_rows, rows_on, spot_in, marked};
+ghost use Rattle.layer_rows.specs.Rows.{lent, held_rows, rows_on, spot_in, marked};
 ghost use Rattle.layer_queries.specs.Queries.{is_child_row};
 ghost use Rattle.layer_table.specs.Layers.{room_in, raised_row, full_refusal, to_top, top_refusal, with_sublayer, pair_refusal, other_parent, family_refusal, sublayer_refusal};
 
-use layer_rows::Row;
+use layer_rows::{LayerRows, Row};
 use layers::LayerId;
 use refusal::Refusal;
 
@@ -23,10 +23,10 @@ fn with_row(n: usize, k: usize) -> usize
     n.max(k + 1)
 }
 
-fn check_room(rows: &[u64], n: usize) -> Result<(), Refusal>
-    ensures { number_in result ≡ full_refusal (room_in rows.now) n }
+fn check_room(rows: LayerRows, n: usize) -> Result<(), Refusal>
+    ensures { number_in result ≡ full_refusal (room_in rows.entry.words.now) n }
 {
-    if rows.len() / 8 < n {
+    if rows.room() < n {
         Err(Refusal::Full)
     } else {
         Ok(())
@@ -40,9 +40,10 @@ fn mark<F: FnOnce(Row) -> Row>(rows: &mut [u64], count: usize, layer: LayerId, c
     ensures { (f : Row → Row) → ((r s : Row) → F.post change r s → s ≡ f r) →
         (result ≡ length (marked f (held_rows count rows.old) layer)) × (rows.new ≡ rows_on rows.old (marked f (held_rows count rows.old) layer)) }
 {
-    let k = layer_rows::spot(rows, count, layer);
-    let n = with_row(layer_rows::held(rows, count), k);
-    let r = change(layer_rows::row_at(rows, count, k, layer));
+    let table = LayerRows { count, words: rows };
+    let k = table.spot(layer);
+    let n = with_row(table.held(), k);
+    let r = change(table.row_at(k, layer));
     layer_rows::put_row(rows, k, r);
     n
 }
@@ -60,11 +61,10 @@ fn raised(r: Row) -> Row
 }
 
 #[tactic(auto, using(crate::proofs::Changes::top_number))]
-fn check_top(rows: &[u64], count: usize, layer: LayerId) -> Result<(), Refusal>
-    ensures { number_in result ≡ top_refusal (room_in rows.now) (held_rows count rows.now) layer }
+fn check_top(rows: LayerRows, layer: LayerId) -> Result<(), Refusal>
+    ensures { number_in result ≡ top_refusal (room_in rows.entry.words.now) (lent rows.entry) layer }
 {
-    let k = layer_rows::spot(rows, count, layer);
-    let n = with_row(layer_rows::held(rows, count), k);
+    let n = with_row(rows.held(), rows.spot(layer));
     refusal::both(layer.check(), check_room(rows, n))
 }
 
@@ -74,18 +74,18 @@ pub fn move_to_top(rows: &mut [u64], count: usize, layer: LayerId) -> Result<usi
     ensures count { IfOk result (λ n. n ≡ length (to_top (held_rows count rows.old) layer)) }
     ensures rows { rows.new ≡ kept (top_refusal (room_in rows.old) (held_rows count rows.old) layer) rows.old (rows_on rows.old (to_top (held_rows count rows.old) layer)) }
 {
-    check_top(rows, count, layer)?;
+    check_top(LayerRows { count, words: rows }, layer)?;
     Ok(mark(rows, count, layer, raised))
 }
 
 // ---- `set_sublayer`
 
 // Whether some row's layer is a child of the layer.
-fn some_child(rows: &[u64], n: usize, layer: LayerId) -> bool
-    ensures { result ≡ some (is_child_row layer) (held_rows n rows.now) }
+fn some_child(rows: LayerRows, layer: LayerId) -> bool
+    ensures { result ≡ some (is_child_row layer) (lent rows.entry) }
 {
-    for k in 0..layer_rows::held(rows, n) {
-        if layer_queries::is_child(layer_rows::row_at(rows, n, k, layer), layer) {
+    for k in 0..rows.held() {
+        if layer_queries::is_child(rows.row_at(k, layer), layer) {
             return true;
         }
     }
@@ -110,12 +110,12 @@ fn other_parent(r: Row, parent: u64) -> bool
 }
 
 #[tactic(auto, unfolding(crate::specs::Layers::family_refusal))]
-fn check_family(rows: &[u64], count: usize, parent: LayerId, child: LayerId) -> Result<(), Refusal>
-    ensures { number_in result ≡ family_refusal (held_rows count rows.now) parent child }
+fn check_family(rows: LayerRows, parent: LayerId, child: LayerId) -> Result<(), Refusal>
+    ensures { number_in result ≡ family_refusal (lent rows.entry) parent child }
 {
-    if other_parent(layer_rows::row_of(rows, count, child), parent.id)
-        || some_child(rows, count, child)
-        || layer_rows::row_of(rows, count, parent).parent != 0
+    if other_parent(rows.row_of(child), parent.id)
+        || some_child(rows, child)
+        || rows.row_of(parent).parent != 0
     {
         Err(Refusal::BadFamily)
     } else {
@@ -124,30 +124,25 @@ fn check_family(rows: &[u64], count: usize, parent: LayerId, child: LayerId) -> 
 }
 
 // How many rows there are once both layers have one.
-fn with_both(rows: &[u64], count: usize, parent: LayerId, child: LayerId) -> usize
-    ensures { result ≡ length (with_sublayer (held_rows count rows.now) parent child) }
+fn with_both(rows: LayerRows, parent: LayerId, child: LayerId) -> usize
+    ensures { result ≡ length (with_sublayer (lent rows.entry) parent child) }
 {
-    let n = layer_rows::held(rows, count);
-    let with_parent = with_row(n, layer_rows::spot(rows, count, parent));
+    let n = rows.held();
+    let with_parent = with_row(n, rows.spot(parent));
     if parent == child {
         with_parent
     } else {
-        with_parent + (with_row(n, layer_rows::spot(rows, count, child)) - n)
+        with_parent + (with_row(n, rows.spot(child)) - n)
     }
 }
 
 #[tactic(auto, unfolding(crate::specs::Layers::sublayer_refusal))]
-fn check_sublayer(
-    rows: &[u64],
-    count: usize,
-    parent: LayerId,
-    child: LayerId,
-) -> Result<(), Refusal>
-    ensures { number_in result ≡ sublayer_refusal (room_in rows.now) (held_rows count rows.now) parent child }
+fn check_sublayer(rows: LayerRows, parent: LayerId, child: LayerId) -> Result<(), Refusal>
+    ensures { number_in result ≡ sublayer_refusal (room_in rows.entry.words.now) (lent rows.entry) parent child }
 {
     let layers = refusal::both(parent.check(), child.check());
-    let room = check_room(rows, with_both(rows, count, parent, child));
-    let family = check_family(rows, count, parent, child);
+    let room = check_room(rows, with_both(rows, parent, child));
+    let family = check_family(rows, parent, child);
     let pair = refusal::both(check_pair(parent, child), family);
     refusal::both(layers, refusal::both(room, pair))
 }
@@ -163,7 +158,7 @@ pub fn set_sublayer(
     ensures count { IfOk result (λ n. n ≡ length (with_sublayer (held_rows count rows.old) parent child)) }
     ensures rows { rows.new ≡ kept (sublayer_refusal (room_in rows.old) (held_rows count rows.old) parent child) rows.old (rows_on rows.old (with_sublayer (held_rows count rows.old) parent child)) }
 {
-    check_sublayer(rows, count, parent, child)?;
+    check_sublayer(LayerRows { count, words: rows }, parent, child)?;
     let n = mark(rows, count, parent, |r| r);
     let adopted = |r| Row {
         parent: parent.id,

@@ -3,4 +3,4 @@ use Rattle.layer_table.proofs.Counts.{spot_fits}
 use Rattle.layer_table.proofs.check_top.Goals as goal
 
 pub with_row-n-requires : goal.with_row-n-requires
-with_row-n-requires c = omega (arith, spot_fits _ _ _ _ c.spot-k.ensures)
+with_row-n-requires c = omega (arith, spot_fits _ _ _ _ c.spot.ensures)
