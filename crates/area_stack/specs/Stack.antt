@@ -1,7 +1,7 @@
 -- Areas (memory/mod.rs, lines 1199 to 1440): its lent tables, and what a call does to them. What they mean in egui's terms is crate `area_maps`; a reader needs only that.
 -- Definitions only.
 use Rattle.std.specs.Prelude.{Option, None, Some, ℕ, suc, ◌+◌, max, Bool, true, false, cond, ◌&&◌, List, [], ◌∷◌, ltb, Float, length}
-use Rattle.refusal.specs.Refusal.{none, full, lowest, id_refusal, answered, kept}
+use Rattle.refusal.specs.Refusal.{none, full, lowest, kept}
 use Rattle.emath.specs.declared.Pos2.{Pos2}
 use Rattle.emath.specs.Rect.{contains_pos}
 use Rattle.area.specs.declared.AreaState.{AreaState}
@@ -9,15 +9,13 @@ use Rattle.area.specs.Area.{rect_of, state_refusal}
 use Rattle.layers.specs.declared.LayerId.{LayerId}
 use Rattle.layers.specs.Layers.{layer_refusal}
 use Rattle.layer_rows.specs.declared.Row.{Row}
+use Rattle.layer_rows.specs.declared.LayerRows.{LayerRows}
 use Rattle.layer_rows.specs.Rows.{held_rows, rows_on, row_of, marked, spot_in}
-use Rattle.layer_queries.specs.declared.FlagAnswer.{FlagAnswer}
-use Rattle.layer_queries.specs.declared.LayerAnswer.{LayerAnswer}
 use Rattle.layer_queries.specs.declared.Listing.{Listing}
-use Rattle.layer_queries.specs.Queries.{is_visible_row, is_window_row, is_listed, last_of, flag_answer}
+use Rattle.layer_queries.specs.Queries.{is_visible_row, is_window_row, is_listed, last_of}
 use Rattle.layer_table.specs.Layers.{room_in}
-use Rattle.area_table.specs.Table.{Table, table_in, room_of, held_in, spot_of, held_of, put_in}
-use Rattle.area_stack.specs.declared.StateAnswer.{StateAnswer}
-use Rattle.area_stack.specs.declared.StateAnswer.TheVariants as State
+use Rattle.area_table.specs.declared.AreaTable.{AreaTable}
+use Rattle.area_table.specs.Table.{Table, table_in, lent, room_of, held_in, spot_of, held_of, put_in}
 
 -- ---- the tables: how many rows and states are held, the rows of the layers, and the map of the states
 pub record Tables : Type 0 where
@@ -28,6 +26,10 @@ pub record Tables : Type 0 where
 
 abbrev pub tables_in : ℕ → ℕ → List ℕ → List ℕ → List ℕ → List Float → Tables
 tables_in count states rows ids codes floats = record { count = count; states = states; rows = rows; areas = table_in ids codes floats }
+
+-- what tables that are lent hold
+abbrev pub tables_lent : LayerRows → AreaTable → Tables
+tables_lent rows areas = record { count = rows.count; states = areas.count; rows = rows.words.now; areas = lent areas }
 
 abbrev pub stack_in : Tables → List Row
 stack_in t = held_rows t.count t.rows
@@ -56,20 +58,10 @@ with_state t layer s =
 unfoldable pub set_state_of : Tables → LayerId → AreaState → Tables
 set_state_of t layer s = kept (set_state_refusal t layer s) t (with_state t layer s)
 
--- ---- `get` and `is_interactable`, from what the map holds of an id
-abbrev pub state_in : Option AreaState → StateAnswer
-state_in None = State.Nothing
-state_in (Some s) = State.Is s
-
-abbrev pub state_answer : ℕ → Option AreaState → StateAnswer
-state_answer id = answered state_in State.Refused (id_refusal id)
-
+-- ---- `is_interactable`, from what the map holds of an id
 abbrev pub is_interactable : Option AreaState → Bool
 is_interactable None = true
 is_interactable (Some s) = s.interactable
-
-abbrev pub interactable_answer : LayerId → Option AreaState → FlagAnswer
-interactable_answer layer held = flag_answer (layer_refusal layer) (is_interactable held)
 
 -- ---- `layer_id_at`
 abbrev pub hit_by : Pos2 → Option AreaState → Bool
@@ -79,7 +71,7 @@ hit_by pos (Some s) = s.interactable && contains_pos (rect_of s) pos
 abbrev pub hit_row : Table → ℕ → Pos2 → Row → Bool
 hit_row t states pos r = is_visible_row r && hit_by pos (held_of t states r.area r.layer.id)
 
-unfoldable pub layer_id_at : Tables → Pos2 → LayerAnswer
+unfoldable pub layer_id_at : Tables → Pos2 → Option LayerId
 layer_id_at t pos = last_of (hit_row t.areas t.states pos) (stack_in t)
 
 -- ---- listings: the next layer of one, and the next window, from a row on

@@ -12,9 +12,10 @@ use lib.Seq.{get_or-set_same, get_or-set_other}
 use borrow.Author.Tests.{le-leb, lt-ltb}
 use Rattle.tables.specs.Tables.{put_at, row_at}
 use Rattle.tables.proofs.Rows.{row_length, row_get, put_row_same, put_row_other}
+use Rattle.std.specs.Prelude.{Option, None, Some}
+use Rattle.emath.specs.declared.Vec2.{Vec2}
 use Rattle.area.specs.declared.AreaState.{AreaState}
 use Rattle.area.specs.declared.PivotPos.{PivotPos}
-use Rattle.area.specs.declared.Size.{Size}
 use Rattle.area_table.specs.Table.{Table, table_in, Entry, word, pivot_pos_in, size_in, state_in, positioned, sized, codes_of, floats_of, room_of, put_in}
 use Rattle.area_table.proofs.Places.{row_fits}
 
@@ -54,9 +55,9 @@ read_pivot_pos : (p : PivotPos) → pivot_pos_in (positioned p).held (positioned
 read_pivot_pos PivotPos.Absent = refl
 read_pivot_pos (PivotPos.At x y) = refl
 
-read_size : (s : Size) → size_in (sized s).held (sized s).x (sized s).y ≡ s
-read_size Size.Absent = refl
-read_size (Size.Of x y) = refl
+read_size : (s : Option Vec2) → size_in (sized s).held (sized s).x (sized s).y ≡ s
+read_size None = refl
+read_size (Some v) = refl
 
 read_word : (b : Bool) → not (eqb (word b) 0) ≡ b
 read_word true = refl

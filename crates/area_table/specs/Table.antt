@@ -4,9 +4,10 @@ use Rattle.std.specs.Prelude.{Option, None, Some, ℕ, zero, suc, ◌+◌, ◌*�
 use Rattle.std.specs.Float.{nan, binary32}
 use Rattle.std.specs.Float.Ieee.{of_bits}
 use Rattle.tables.specs.Tables.{nearest, put_at}
+use Rattle.emath.specs.declared.Vec2.{Vec2}
 use Rattle.area.specs.declared.PivotPos.{PivotPos}
-use Rattle.area.specs.declared.Size.{Size}
 use Rattle.area.specs.declared.AreaState.{AreaState}
+use Rattle.area_table.specs.declared.AreaTable.{AreaTable}
 
 pub record Table : Type 0 where
   pub ids : List ℕ
@@ -16,6 +17,10 @@ pub record Table : Type 0 where
 abbrev pub table_in : List ℕ → List ℕ → List Float → Table
 table_in ids codes floats = record { ids = ids; codes = codes; floats = floats }
 
+-- what tables that are lent hold
+abbrev pub lent : AreaTable → Table
+lent t = table_in t.ids.now t.codes.now t.floats.now
+
 -- ---- a state and its numbers
 abbrev pub word : Bool → ℕ
 word b = cond b 1 0
@@ -23,8 +28,8 @@ word b = cond b 1 0
 abbrev pub pivot_pos_in : ℕ → Float → Float → PivotPos
 pivot_pos_in held x y = cond (eqb held 0) PivotPos.Absent (PivotPos.At x y)
 
-abbrev pub size_in : ℕ → Float → Float → Size
-size_in held x y = cond (eqb held 0) Size.Absent (Size.Of x y)
+abbrev pub size_in : ℕ → Float → Float → Option Vec2
+size_in held x y = cond (eqb held 0) None (Some (record { x = x; y = y }))
 
 unfoldable pub state_in : List ℕ → List Float → ℕ → AreaState
 state_in codes floats k = record { pivot_pos = pivot_pos_in (get_or codes (5 * k) 0) (get_or floats (4 * k) nan) (get_or floats (4 * k + 1) nan); pivot = record { x = get_or codes (5 * k + 1) 0; y = get_or codes (5 * k + 2) 0 }; size = size_in (get_or codes (5 * k + 3) 0) (get_or floats (4 * k + 2) nan) (get_or floats (4 * k + 3) nan); interactable = not (eqb (get_or codes (5 * k + 4) 0) 0) }
@@ -42,9 +47,9 @@ abbrev pub positioned : PivotPos → Pair
 positioned PivotPos.Absent = zeros
 positioned (PivotPos.At x y) = record { held = 1; x = x; y = y }
 
-abbrev pub sized : Size → Pair
-sized Size.Absent = zeros
-sized (Size.Of x y) = record { held = 1; x = x; y = y }
+abbrev pub sized : Option Vec2 → Pair
+sized None = zeros
+sized (Some v) = record { held = 1; x = v.x; y = v.y }
 
 abbrev pub codes_of : AreaState → List ℕ
 codes_of s = (positioned s.pivot_pos).held ∷ s.pivot.x ∷ s.pivot.y ∷ (sized s.size).held ∷ word s.interactable ∷ []

@@ -7,9 +7,10 @@
 
 ghost use Rattle.std.specs.Prelude.{◌≡◌, ◌+◌, ◌*◌, ◌≤◌, length};
 ghost use Rattle.tables.specs.Tables.{put_at};
-ghost use Rattle.area_table.specs.Table.{table_in, room_of, held_in, found_in, spot_of, state_in, codes_of, floats_of, held_of, put_in};
+ghost use Rattle.area_table.specs.Table.{table_in, lent, room_of, held_in, found_in, spot_of, state_in, codes_of, floats_of, held_of, put_in};
 
-use area::{Align2, AreaState, PivotPos, Size};
+use area::{Align2, AreaState, PivotPos};
+use emath::Vec2;
 
 // ---- a state and its numbers
 
@@ -28,11 +29,10 @@ fn read(codes: &[u64], floats: &[f32], k: usize) -> AreaState
             x: codes[5 * k + 1],
             y: codes[5 * k + 2],
         },
-        size: if codes[5 * k + 3] == 0 {
-            Size::Absent
-        } else {
-            Size::Of(floats[4 * k + 2], floats[4 * k + 3])
-        },
+        size: (codes[5 * k + 3] != 0).then_some(Vec2 {
+            x: floats[4 * k + 2],
+            y: floats[4 * k + 3],
+        }),
         interactable: codes[5 * k + 4] != 0,
     }
 }
@@ -45,77 +45,86 @@ fn put_state(codes: &mut [u64], floats: &mut [f32], k: usize, s: AreaState)
         PivotPos::Absent => (0, 0.0, 0.0),
         PivotPos::At(x, y) => (1, x, y),
     };
-    let (sized, w, h) = match s.size {
-        Size::Absent => (0, 0.0, 0.0),
-        Size::Of(w, h) => (1, w, h),
-    };
+    let size = s.size.unwrap_or(Vec2 { x: 0.0, y: 0.0 });
     let code = [
         placed,
         s.pivot.x,
         s.pivot.y,
-        sized,
+        u64::from(s.size.is_some()),
         u64::from(s.interactable),
     ];
     tables::put(codes, 5 * k, &code);
-    tables::put(floats, 4 * k, &[x, y, w, h]);
+    tables::put(floats, 4 * k, &[x, y, size.x, size.y]);
 }
 
 // ---- the map
 
-// How many whole rows the tables have.
-#[tactic(auto, unfolding(crate::specs::Table::room_of))]
-pub fn room(ids: &[u64], codes: &[u64], floats: &[f32]) -> usize
-    ensures { result ≡ room_of (table_in ids.now codes.now floats.now) }
-{
-    ids.len().min(codes.len() / 5).min(floats.len() / 4)
+// The tables, lent to be read, and how many rows are held.
+#[derive(Clone, Copy)]
+pub struct AreaTable<'a> {
+    pub count: usize,
+    pub ids: &'a [u64],
+    pub codes: &'a [u64],
+    pub floats: &'a [f32],
 }
 
-// How many rows are held: never more than there is room for.
-pub fn len(ids: &[u64], codes: &[u64], floats: &[f32], count: usize) -> usize
-    ensures { result ≡ held_in count (table_in ids.now codes.now floats.now) }
-{
-    count.min(room(ids, codes, floats))
-}
+impl AreaTable<'_> {
+    // How many whole rows the tables have.
+    #[tactic(auto, unfolding(crate::specs::Table::room_of))]
+    pub fn room(self) -> usize
+        ensures { result ≡ room_of (lent self.entry) }
+    {
+        self.ids
+            .len()
+            .min(self.codes.len() / 5)
+            .min(self.floats.len() / 4)
+    }
 
-fn find(ids: &[u64], n: usize, from: usize, id: u64) -> Option<usize>
-    requires { n ≤ length ids.now }
-    ensures { result ≡ found_in ids.now n from id }
-{
-    tables::find(&ids[..n], from, id)
-}
+    // How many rows are held: never more than there is room for.
+    pub fn held(self) -> usize
+        ensures { result ≡ held_in self.entry.count (lent self.entry) }
+    {
+        self.count.min(self.room())
+    }
 
-// The state of an id, looked for first in the row before `from`: of an id that stands once, `from` only decides how soon it is found.
-#[tactic(auto, using(crate::proofs::Places::get_none))]
-pub fn get(
-    ids: &[u64],
-    codes: &[u64],
-    floats: &[f32],
-    count: usize,
-    from: usize,
-    id: u64,
-) -> Option<AreaState>
-    ensures { result ≡ held_of (table_in ids.now codes.now floats.now) count from id }
-{
-    let n = len(ids, codes, floats, count);
-    let k = find(ids, n, from, id)?;
-    Some(read(codes, floats, k))
-}
+    // The row of an id.
+    #[tactic(auto, unfolding(crate::specs::Table::room_of))]
+    fn find(self, from: usize, id: u64) -> Option<usize>
+        ensures { result ≡ found_in self.entry.ids.now (held_in self.entry.count (lent self.entry)) from id }
+    {
+        tables::find(&self.ids[..self.held()], from, id)
+    }
 
-// The row of an id, or how many are held where it has none.
-#[tactic(auto, using(crate::proofs::Places::spot_at_lem, crate::proofs::Places::spot_none))]
-pub fn spot(ids: &[u64], codes: &[u64], floats: &[f32], count: usize, from: usize, id: u64) -> usize
-    ensures { result ≡ spot_of (table_in ids.now codes.now floats.now) count from id }
-{
-    let n = len(ids, codes, floats, count);
-    find(ids, n, from, id).unwrap_or(n)
+    // The state of an id, looked for first in the row before `from`: of an id that stands once, `from` only decides how soon it is found.
+    #[tactic(auto, using(crate::proofs::Places::found_fits), unfolding(crate::specs::Table::held_of))]
+    pub fn get(self, from: usize, id: u64) -> Option<AreaState>
+        ensures { result ≡ held_of (lent self.entry) self.entry.count from id }
+    {
+        let k = self.find(from, id)?;
+        Some(read(self.codes, self.floats, k))
+    }
+
+    // The row of an id, or how many are held where it has none.
+    #[tactic(auto, unfolding(crate::specs::Table::spot_of))]
+    pub fn spot(self, from: usize, id: u64) -> usize
+        ensures { result ≡ spot_of (lent self.entry) self.entry.count from id }
+    {
+        self.find(from, id).unwrap_or(self.held())
+    }
 }
 
 // Puts an id and its state in row k; past the room it changes nothing.
-#[tactic(auto, using(crate::proofs::Places::put_past))]
+#[tactic(auto, unfolding(crate::specs::Table::put_in, crate::specs::Table::room_of))]
 pub fn put(ids: &mut [u64], codes: &mut [u64], floats: &mut [f32], k: usize, id: u64, s: AreaState)
     ensures { table_in ids.new codes.new floats.new ≡ put_in (table_in ids.old codes.old floats.old) k id s }
 {
-    if k < room(ids, codes, floats) {
+    let table = AreaTable {
+        count: k,
+        ids,
+        codes,
+        floats,
+    };
+    if k < table.room() {
         ids[k] = id;
         put_state(codes, floats, k, s);
     }

@@ -1,18 +1,12 @@
 -- What Areas (memory/mod.rs, lines 1246 to 1261, 1309 to 1333 and 1371 to 1396) asks of its layers, on the rows of the stack. What it means in egui's terms is crate `area_maps`; a reader
 -- needs only that. Definitions only.
-use Rattle.std.specs.Prelude.{ℕ, suc, Bool, true, cond, not, ◌&&◌, ◌||◌, List, [], ◌∷◌, length, ◌==◌, nat_lt}
-use Rattle.refusal.specs.Refusal.{answered}
+use Rattle.std.specs.Prelude.{ℕ, suc, Bool, true, cond, not, ◌&&◌, ◌||◌, Option, None, Some, List, [], ◌∷◌, length, ◌==◌, nat_lt}
+use Rattle.std.specs.Option.{option_or}
 use Rattle.layers.specs.declared.LayerId.{LayerId}
 use Rattle.layer_rows.specs.declared.Row.{Row}
 use Rattle.layer_rows.specs.Rows.{spot_in}
 use Rattle.layer_queries.specs.declared.Listing.{Listing}
 use Rattle.layer_queries.specs.declared.Listing.TheVariants.{All, Visible, Children}
-use Rattle.layer_queries.specs.declared.FlagAnswer.{FlagAnswer}
-use Rattle.layer_queries.specs.declared.FlagAnswer.TheVariants as Flag
-use Rattle.layer_queries.specs.declared.LayerAnswer.{LayerAnswer}
-use Rattle.layer_queries.specs.declared.LayerAnswer.TheVariants as Layer
-use Rattle.layer_queries.specs.declared.OrderingAnswer.{OrderingAnswer}
-use Rattle.layer_queries.specs.declared.OrderingAnswer.TheVariants as Ordering
 
 -- ---- what a row says
 abbrev pub shown_last : Row → Bool
@@ -49,24 +43,9 @@ abbrev pub compared_by : List Row → LayerId → LayerId → ℕ
 compared_by placed a b = cond (a.order == b.order) (compared (rank_in placed a) (rank_in placed b)) (compared a.order b.order)
 
 -- ---- the last row of which something holds, as a search from the top finds it
-abbrev pub or_else : LayerAnswer → LayerAnswer → LayerAnswer
-or_else Layer.Nothing b = b
-or_else (Layer.Is layer) b = Layer.Is layer
-or_else (Layer.Refused n) b = Layer.Refused n
+unfoldable pub last_of : (Row → Bool) → List Row → Option LayerId
+last_of p [] = None
+last_of p (r ∷ rows) = option_or (last_of p rows) (cond (p r) (Some r.layer) None)
 
-unfoldable pub last_of : (Row → Bool) → List Row → LayerAnswer
-last_of p [] = Layer.Nothing
-last_of p (r ∷ rows) = or_else (last_of p rows) (cond (p r) (Layer.Is r.layer) Layer.Nothing)
-
-abbrev pub parent_in : Row → LayerAnswer
-parent_in r = cond (r.parent == 0) Layer.Nothing (Layer.Is (record { order = r.layer.order; id = r.parent }))
-
--- ---- the answers: the refusal where there is one, else the value
-abbrev pub flag_answer : ℕ → Bool → FlagAnswer
-flag_answer = answered Flag.Is Flag.Refused
-
-abbrev pub ordering_answer : ℕ → ℕ → OrderingAnswer
-ordering_answer = answered Ordering.Is Ordering.Refused
-
-abbrev pub layer_answer : ℕ → LayerAnswer → LayerAnswer
-layer_answer = answered (λ a. a) Layer.Refused
+abbrev pub parent_in : Row → Option LayerId
+parent_in r = cond (r.parent == 0) None (Some (record { order = r.layer.order; id = r.parent }))

@@ -1,41 +1,20 @@
 // The queries of `Areas` (memory/mod.rs) that ask only the layers, on the rows of crate `layer_rows`.
 #![tactic(auto)]
 
-ghost use Rattle.std.specs.Prelude.{◌≡◌, Bool};
+ghost use Rattle.std.specs.Prelude.{◌≡◌};
 ghost use Rattle.std.specs.Ordering.{ordering_index};
-ghost use Rattle.layer_rows.specs.declared.Row.{Row};
-ghost use Rattle.refusal.specs.Refusal.{lowest, code_refusal};
+ghost use Rattle.refusal.specs.Refusal.{lowest, code_refusal, answer};
 ghost use Rattle.refusal.specs.Limits.{last_order};
 ghost use Rattle.layers.specs.Layers.{layer_refusal};
-ghost use Rattle.layer_rows.specs.Rows.{held_rows, row_of};
-ghost use Rattle.layer_queries.specs.Queries.{is_child_row, is_window_row, is_listed, is_top_row, rank_in, compared_by, ordering_answer, shown_last, is_visible_row, is_sublayer_row, flag_answer, parent_in, last_of, layer_answer};
+ghost use Rattle.layer_rows.specs.Rows.{lent, row_of};
+ghost use Rattle.layer_queries.specs.Queries.{is_child_row, is_window_row, is_listed, is_top_row, rank_in, compared_by, shown_last, is_visible_row, is_sublayer_row, parent_in, last_of};
 
-use layer_rows::Row;
+use layer_rows::{LayerRows, Row};
 use layers::LayerId;
-use refusal::{LAST_ORDER, NONE};
+use refusal::{LAST_ORDER, Refusal};
 use std::cmp::Ordering;
 
-#[derive(Clone, Copy)]
-pub enum FlagAnswer {
-    Is(bool),
-    Refused(u64),
-}
-
-#[derive(Clone, Copy)]
-pub enum LayerAnswer {
-    Nothing,
-    Is(LayerId),
-    Refused(u64),
-}
-
-// core::cmp::Ordering: 0 less, 1 equal, 2 greater.
-#[derive(Clone, Copy)]
-pub enum OrderingAnswer {
-    Is(u64),
-    Refused(u64),
-}
-
-// Which layers a listing has.
+// Which layers a listing has. A public call is not handed the test itself, since it would have to ask its callers that the test can be called.
 #[derive(Clone, Copy)]
 pub enum Listing {
     All,
@@ -84,93 +63,72 @@ pub fn is_listed(listing: Listing, r: Row) -> bool
 
 // ---- the queries
 
-// What a test says of a layer's row.
-fn flag<F: FnOnce(Row) -> bool>(rows: &[u64], count: usize, layer: LayerId, test: F) -> FlagAnswer
-    requires { F.IsAlwaysCallable test }
-    ensures { (p : Row → Bool) → ((r : Row) (b : Bool) → F.post test r b → b ≡ p r) → result ≡ flag_answer (layer_refusal layer) (p (row_of (held_rows count rows.now) layer)) }
+pub fn visible_last_frame(rows: LayerRows, layer: LayerId) -> Result<bool, Refusal>
+    ensures { result ≡ answer (layer_refusal layer) (shown_last (row_of (lent rows.entry) layer)) }
 {
-    let refusal = layer.refusal();
-    if refusal != NONE {
-        return FlagAnswer::Refused(refusal);
-    }
-    FlagAnswer::Is(test(layer_rows::row_of(rows, count, layer)))
+    layer.check()?;
+    Ok(rows.row_of(layer).last != 0)
 }
 
-pub fn visible_last_frame(rows: &[u64], count: usize, layer: LayerId) -> FlagAnswer
-    ensures { result ≡ flag_answer (layer_refusal layer) (shown_last (row_of (held_rows count rows.now) layer)) }
+pub fn is_visible(rows: LayerRows, layer: LayerId) -> Result<bool, Refusal>
+    ensures { result ≡ answer (layer_refusal layer) (is_visible_row (row_of (lent rows.entry) layer)) }
 {
-    flag(rows, count, layer, |r| r.last != 0)
+    layer.check()?;
+    Ok(is_visible_row(rows.row_of(layer)))
 }
 
-pub fn is_visible(rows: &[u64], count: usize, layer: LayerId) -> FlagAnswer
-    ensures { result ≡ flag_answer (layer_refusal layer) (is_visible_row (row_of (held_rows count rows.now) layer)) }
+pub fn is_sublayer(rows: LayerRows, layer: LayerId) -> Result<bool, Refusal>
+    ensures { result ≡ answer (layer_refusal layer) (is_sublayer_row (row_of (lent rows.entry) layer)) }
 {
-    flag(rows, count, layer, is_visible_row)
-}
-
-pub fn is_sublayer(rows: &[u64], count: usize, layer: LayerId) -> FlagAnswer
-    ensures { result ≡ flag_answer (layer_refusal layer) (is_sublayer_row (row_of (held_rows count rows.now) layer)) }
-{
-    flag(rows, count, layer, |r| r.parent != 0)
+    layer.check()?;
+    Ok(rows.row_of(layer).parent != 0)
 }
 
 // The parent of a row's layer has its Order.
-fn parent_of(r: Row) -> LayerAnswer
+fn parent_of(r: Row) -> Option<LayerId>
     ensures { result ≡ parent_in r }
 {
-    if r.parent == 0 {
-        return LayerAnswer::Nothing;
-    }
-    LayerAnswer::Is(LayerId {
+    (r.parent != 0).then_some(LayerId {
         order: r.layer.order,
         id: r.parent,
     })
 }
 
-pub fn parent_layer(rows: &[u64], count: usize, layer: LayerId) -> LayerAnswer
-    ensures { result ≡ layer_answer (layer_refusal layer) (parent_in (row_of (held_rows count rows.now) layer)) }
+pub fn parent_layer(rows: LayerRows, layer: LayerId) -> Result<Option<LayerId>, Refusal>
+    ensures { result ≡ answer (layer_refusal layer) (parent_in (row_of (lent rows.entry) layer)) }
 {
-    let refusal = layer.refusal();
-    if refusal != NONE {
-        return LayerAnswer::Refused(refusal);
-    }
-    parent_of(layer_rows::row_of(rows, count, layer))
+    layer.check()?;
+    Ok(parent_of(rows.row_of(layer)))
 }
 
 // The last layer of an Order that is no sublayer.
 #[tactic(auto, using(crate::proofs::Tops::none_left))]
-fn top(rows: &[u64], count: usize, order: u64) -> LayerAnswer
-    ensures { result ≡ last_of (is_top_row order) (held_rows count rows.now) }
+fn top(rows: LayerRows, order: u64) -> Option<LayerId>
+    ensures { result ≡ last_of (is_top_row order) (lent rows.entry) }
 {
-    for k in (0..layer_rows::held(rows, count)).rev() {
-        let r = layer_rows::row_at(rows, count, k, LayerId { order: 0, id: 0 });
+    for k in (0..rows.held()).rev() {
+        let r = rows.row_at(k, LayerId { order: 0, id: 0 });
         if is_top(order, r) {
-            return LayerAnswer::Is(r.layer);
+            return Some(r.layer);
         }
     }
-    LayerAnswer::Nothing
+    None
 }
 
-pub fn top_layer_id(rows: &[u64], count: usize, order: u64) -> LayerAnswer
-    ensures { result ≡ layer_answer (code_refusal order last_order) (last_of (is_top_row order) (held_rows count rows.now)) }
+pub fn top_layer_id(rows: LayerRows, order: u64) -> Result<Option<LayerId>, Refusal>
+    ensures { result ≡ answer (code_refusal order last_order) (last_of (is_top_row order) (lent rows.entry)) }
 {
-    let refusal = refusal::code_refusal(order, LAST_ORDER);
-    if refusal != NONE {
-        return LayerAnswer::Refused(refusal);
-    }
-    top(rows, count, order)
+    refusal::check_code(order, LAST_ORDER)?;
+    Ok(top(rows, order))
 }
 
 // 0 for a layer without a place, and one more than its place for the others.
 #[tactic(auto, using(crate::proofs::Ranks::has_place, crate::proofs::Ranks::no_place))]
-fn rank(rows: &[u64], placed: usize, layer: LayerId) -> usize
-    ensures { result ≡ rank_in (held_rows placed rows.now) layer }
+fn rank(rows: LayerRows, layer: LayerId) -> usize
+    ensures { result ≡ rank_in (lent rows.entry) layer }
 {
-    let k = layer_rows::spot(rows, placed, layer);
-    if k < layer_rows::held(rows, placed) {
-        return k + 1;
-    }
-    0
+    let k = rows.spot(layer);
+    if k < rows.held() { k + 1 } else { 0 }
 }
 
 fn code(order: Ordering) -> u64
@@ -183,21 +141,18 @@ fn code(order: Ordering) -> u64
     }
 }
 
-// `compare_order` of any two layers: it refuses none.
-pub fn by_place(rows: &[u64], placed: usize, a: LayerId, b: LayerId) -> u64
-    ensures { result ≡ compared_by (held_rows placed rows.now) a b }
+// `compare_order` of any two layers, 0 less, 1 equal, 2 greater as document 01 has it: it refuses none.
+pub fn by_place(rows: LayerRows, a: LayerId, b: LayerId) -> u64
+    ensures { result ≡ compared_by (lent rows.entry) a b }
 {
-    let by_rank = || rank(rows, placed, a).cmp(&rank(rows, placed, b));
+    let by_rank = || rank(rows, a).cmp(&rank(rows, b));
     code(a.order.cmp(&b.order).then_with(by_rank))
 }
 
 // The rows that have a place are the first so many.
-pub fn compare_order(rows: &[u64], placed: usize, a: LayerId, b: LayerId) -> OrderingAnswer
-    ensures { result ≡ ordering_answer (lowest (layer_refusal a) (layer_refusal b)) (compared_by (held_rows placed rows.now) a b) }
+pub fn compare_order(rows: LayerRows, a: LayerId, b: LayerId) -> Result<u64, Refusal>
+    ensures { result ≡ answer (lowest (layer_refusal a) (layer_refusal b)) (compared_by (lent rows.entry) a b) }
 {
-    let refusal = refusal::lowest(a.refusal(), b.refusal());
-    if refusal != NONE {
-        return OrderingAnswer::Refused(refusal);
-    }
-    OrderingAnswer::Is(by_place(rows, placed, a, b))
+    refusal::both(a.check(), b.check())?;
+    Ok(by_place(rows, a, b))
 }

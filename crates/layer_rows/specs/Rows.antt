@@ -3,6 +3,7 @@ use Rattle.std.specs.Prelude.{ℕ, zero, suc, ◌+◌, ◌*◌, ◌/◌, cond, L
 use Rattle.layers.specs.declared.LayerId.{LayerId}
 use Rattle.layers.specs.Layers.{is_layer}
 use Rattle.layer_rows.specs.declared.Row.{Row}
+use Rattle.layer_rows.specs.declared.LayerRows.{LayerRows}
 
 -- ---- a row and its eight words
 abbrev pub row_in : List ℕ → ℕ → Row
@@ -21,6 +22,10 @@ rows_of words = rows_from (length words / 8) words
 
 unfoldable pub held_rows : ℕ → List ℕ → List Row
 held_rows count words = take count (rows_of words)
+
+-- those of a table that is lent
+abbrev pub lent : LayerRows → List Row
+lent t = held_rows t.count t.words.now
 
 -- ---- the table with other rows from its beginning on; past them it is as it was
 unfoldable pub flat : List Row → List ℕ

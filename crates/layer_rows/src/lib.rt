@@ -1,5 +1,5 @@
 // The layers of `Areas` (memory/mod.rs) as rows of a lent table of any length: the stack, a row for each layer, the lowest first. How many rows are held goes
-// along by value. A row is eight numbers:
+// along by value; a call that changes the rows is lent the words themselves, as C lends them. A row is eight numbers:
 //     Order and id; whether it was shown this pass, shown the last pass, raised this pass; the id of its parent this pass, which has its Order, or 0;
 //     where its area's state is looked for first; a key, while rows are sorted
 // The table is the caller's and may hold any words, so the flags stay numbers: every word but 0 says yes, and a row that is put back keeps its word.
@@ -7,7 +7,7 @@
 
 ghost use Rattle.std.specs.Prelude.{◌≡◌, ◌+◌, ◌*◌, ◌≤◌, min, ◌/◌, length, get_or};
 ghost use Rattle.tables.specs.Tables.{put_at};
-ghost use Rattle.layer_rows.specs.Rows.{row_in, words_of, new_row, spot_in, row_of, held_rows};
+ghost use Rattle.layer_rows.specs.Rows.{row_in, words_of, new_row, lent, spot_in, row_of};
 
 use layers::LayerId;
 
@@ -54,22 +54,61 @@ fn read(rows: &[u64], k: usize) -> Row
     }
 }
 
-// How many rows are held: never more than there is room for.
-pub fn held(rows: &[u64], count: usize) -> usize
-    ensures { result ≡ min count (length rows.now / 8) }
-{
-    count.min(rows.len() / 8)
+// The table, lent to be read, and how many rows are held.
+#[derive(Clone, Copy)]
+pub struct LayerRows<'a> {
+    pub count: usize,
+    pub words: &'a [u64],
 }
 
-// Row k of those held, and past them a new one of the layer.
-#[tactic(auto, using(crate::proofs::Rows::held_get, crate::proofs::Rows::held_past))]
-pub fn row_at(rows: &[u64], count: usize, k: usize, layer: LayerId) -> Row
-    ensures { result ≡ get_or (held_rows count rows.now) k (new_row layer) }
-{
-    if k < held(rows, count) {
-        return read(rows, k);
+impl LayerRows<'_> {
+    // How many whole rows the table has.
+    pub fn room(self) -> usize
+        ensures { result ≡ length self.entry.words.now / 8 }
+    {
+        self.words.len() / 8
     }
-    new_row(layer)
+
+    // How many rows are held: never more than there is room for.
+    pub fn held(self) -> usize
+        ensures { result ≡ min self.entry.count (length self.entry.words.now / 8) }
+    {
+        self.count.min(self.room())
+    }
+
+    // Row k of those held, and past them a new one of the layer.
+    #[tactic(auto, using(crate::proofs::Rows::held_get, crate::proofs::Rows::held_past))]
+    pub fn row_at(self, k: usize, layer: LayerId) -> Row
+        ensures { result ≡ get_or (lent self.entry) k (new_row layer) }
+    {
+        if k < self.held() {
+            read(self.words, k)
+        } else {
+            new_row(layer)
+        }
+    }
+
+    // The place of a layer's row, or how many are held where it has none.
+    #[tactic(auto, using(crate::proofs::Rows::spot_over, crate::proofs::Rows::spot_found), unfolding(layers::specs::Layers::is_layer))]
+    pub fn spot(self, layer: LayerId) -> usize
+        ensures { result ≡ spot_in (lent self.entry) layer }
+    {
+        let n = self.held();
+        for k in 0..n {
+            if read(self.words, k).layer == layer {
+                return k;
+            }
+        }
+        n
+    }
+
+    // What is held of a layer.
+    #[tactic(auto, unfolding(crate::specs::Rows::row_of))]
+    pub fn row_of(self, layer: LayerId) -> Row
+        ensures { result ≡ row_of (lent self.entry) layer }
+    {
+        self.row_at(self.spot(layer), layer)
+    }
 }
 
 // Puts row k; past the room it changes nothing.
@@ -90,26 +129,4 @@ pub fn put_row(rows: &mut [u64], k: usize, r: Row)
         ];
         tables::put(rows, 8 * k, &words);
     }
-}
-
-// The place of a layer's row, or how many are held where it has none.
-#[tactic(auto, using(crate::proofs::Rows::spot_over, crate::proofs::Rows::spot_found))]
-pub fn spot(rows: &[u64], count: usize, layer: LayerId) -> usize
-    ensures { result ≡ spot_in (held_rows count rows.now) layer }
-{
-    let n = held(rows, count);
-    for k in 0..n {
-        if read(rows, k).layer.is(layer) {
-            return k;
-        }
-    }
-    n
-}
-
-// What is held of a layer.
-#[tactic(auto, unfolding(crate::specs::Rows::row_of))]
-pub fn row_of(rows: &[u64], count: usize, layer: LayerId) -> Row
-    ensures { result ≡ row_of (held_rows count rows.now) layer }
-{
-    row_at(rows, count, spot(rows, count, layer), layer)
 }

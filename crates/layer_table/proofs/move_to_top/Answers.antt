@@ -1,16 +1,15 @@
--- `layer_table::move_to_top` meets its contract. Assumes nothing.
-use native.Mathlib.Omega.{arith}
-use Rattle.layer_table.proofs.Counts.{spot_fits}
-use Rattle.layer_table.proofs.Changes.{top_refused, raised}
+use Rattle.std.proofs.Common.{rules}
+use Rattle.layer_table.specs.Layers.{raised_row, to_top}
+use Rattle.layer_table.proofs.Changes.{top_fits}
 use Rattle.layer_table.proofs.move_to_top.Goals as goal
 
-pub with_row-n-requires : goal.with_row-n-requires
-with_row-n-requires c = omega (arith, spot_fits _ _ _ _ c.spot-k.ensures)
+pub mark-requires-clause-room : goal.mark-requires-clause-room
+mark-requires-clause-room c = top_fits _ _ _ (rw c.in_ok-check_top.was at c.check_top.ensures)
 
-pub returns-then-refusal-ne-NONE : goal.returns-then-refusal-ne-NONE
-returns-then-refusal-ne-NONE c =
-    top_refused _ _ _ _ _ _ c.spot-k.ensures c.held.ensures c.with_row-n.ensures _ _ _ c.refusal.ensures c.full_refusal.ensures c.lowest-refusal.ensures c.if-refusal-ne-NONE.true
+pub returns-clause-count : goal.returns-clause-count
+unfolding to_top
+returns-clause-count c = (c.mark.ensures raised_row (λ r s made. search rules)).0
 
-pub returns : goal.returns
-returns c =
-    raised _ _ _ _ _ _ c.spot-k.ensures c.held.ensures c.with_row-n.ensures _ _ _ c.refusal.ensures c.full_refusal.ensures c.lowest-refusal.ensures c.if-refusal-ne-NONE.false _ _ c.row_at.ensures c.raised-r.ensures _ c.put_row.ensures
+pub returns-clause-rows : goal.returns-clause-rows
+unfolding to_top
+returns-clause-rows c = rw (← rw c.in_ok-check_top.was at c.check_top.ensures) (c.mark.ensures raised_row (λ r s made. search rules)).1

@@ -1,16 +1,18 @@
--- `layer_table::set_sublayer` meets its contract. Assumes nothing.
-use Rattle.layer_table.proofs.Changes.{sublayer_refused, parent_fits, child_fits, paired}
+use Rattle.std.proofs.Common.{rules}
+use Rattle.layer_table.specs.Layers.{same, child_row}
+use Rattle.layer_table.proofs.Changes.{parent_fits, child_fits, paired}
 use Rattle.layer_table.proofs.set_sublayer.Goals as goal
 
-pub returns-then-refusal-ne-NONE : goal.returns-then-refusal-ne-NONE
-returns-then-refusal-ne-NONE c = sublayer_refused _ _ _ _ _ c.sublayer_refusal-refusal.ensures c.if-refusal-ne-NONE.true
+pub mark-n-requires-clause-room : goal.mark-n-requires-clause-room
+mark-n-requires-clause-room c = parent_fits _ _ _ _ (rw c.in_ok-check_sublayer.was at c.check_sublayer.ensures)
 
-pub enter-n-requires : goal.enter-n-requires
-enter-n-requires c = parent_fits _ _ _ _ _ c.sublayer_refusal-refusal.ensures c.if-refusal-ne-NONE.false
+pub mark-requires-clause-room : goal.mark-requires-clause-room
+mark-requires-clause-room c = child_fits _ _ _ _ (rw c.in_ok-check_sublayer.was at c.check_sublayer.ensures) _ _ (c.mark-n.ensures same (λ r s made. search rules))
 
-pub adopt-requires : goal.adopt-requires
-adopt-requires c = child_fits _ _ _ _ _ c.sublayer_refusal-refusal.ensures c.if-refusal-ne-NONE.false _ _ c.enter-n.ensures
+pub returns-clause-count : goal.returns-clause-count
+returns-clause-count c =
+    (paired _ _ _ _ (rw c.in_ok-check_sublayer.was at c.check_sublayer.ensures) _ _ (c.mark-n.ensures same (λ r s made. search rules)) _ _ (c.mark.ensures (child_row c.args.parent.id) (λ r s made. search rules))).0
 
-pub returns : goal.returns
-returns c =
-    paired _ _ _ _ _ c.sublayer_refusal-refusal.ensures c.if-refusal-ne-NONE.false _ _ c.enter-n.ensures _ _ c.adopt.ensures
+pub returns-clause-rows : goal.returns-clause-rows
+returns-clause-rows c =
+    (paired _ _ _ _ (rw c.in_ok-check_sublayer.was at c.check_sublayer.ensures) _ _ (c.mark-n.ensures same (λ r s made. search rules)) _ _ (c.mark.ensures (child_row c.args.parent.id) (λ r s made. search rules))).1
