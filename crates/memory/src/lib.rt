@@ -1,5 +1,5 @@
 // `Memory` of memory/mod.rs as a record by value, over the functions in place (crates `memory_core`, `memory_fields`, `memory_popups`): its passes, its focus and its flags. Crate `memory_areas`
-// has the calls on its layers and areas.
+// has the calls on its layers and areas. A call that is refused hands back no record: the caller's is as it was.
 #![tactic(auto)]
 
 ghost use Rattle.std.specs.Prelude.{◌≡◌, true};
@@ -7,7 +7,7 @@ ghost use Rattle.area_table.specs.Table.{table_in};
 ghost use Rattle.focus_cache.specs.Cache.{cache_in};
 ghost use Rattle.focus_rules.specs.Rules.{id_or_nothing, layer_or_nothing};
 ghost use Rattle.focus.specs.Focus.{events_of};
-ghost use Rattle.memory_rules.specs.State.{areas_of, focus_of, nav_of, with_ime, with_everything, new_memory, memory_of, fields_of};
+ghost use Rattle.memory_rules.specs.State.{areas_of, focus_of, nav_of, with_ime, with_everything, new_memory, memory_of, fields_of, done, done_of};
 ghost use Rattle.memory_rules.specs.Memory.{begun_of, ended_of, used_in, interested_of, ignored_of, above_answer, allows_answer, modal_set, of_id, had_focus, has_focus, lost_focus, gained_focus, filter_set, requested, requested_next, surrendered, moved, text_stopped};
 
 pub mod popups;
@@ -15,21 +15,19 @@ pub mod popups;
 use areas::Areas;
 use focus::{Events, Focus, Used};
 use input::EventFilter;
-use layer_queries::{FlagAnswer, LayerAnswer};
 use layers::LayerId;
-use memory_rules::{Changed, Done, Fields, Memory, Viewport};
-use refusal::{BAD_LIST, CACHED, EVENTS, USED};
+use memory_rules::{Fields, Memory, Viewport};
+use refusal::{EVENTS, Refusal, USED};
 
 pub fn new() -> Memory
     ensures { result ≡ new_memory }
 {
-    let viewport = Viewport {
-        areas: Areas::new(),
-        focus: Focus::new(),
-        popup: memory_popups::no_popup(),
-    };
     Memory {
-        viewport: viewport,
+        viewport: Viewport {
+            areas: Areas::new(),
+            focus: Focus::new(),
+            popup: memory_popups::no_popup(),
+        },
         requested_interrupt_ime: false,
         everything_is_visible: false,
     }
@@ -40,19 +38,14 @@ pub fn new() -> Memory
 pub fn fields_of(m: Memory) -> Fields
     ensures { result ≡ fields_of m }
 {
-    let viewport = m.viewport;
-    let areas = viewport.areas;
-    let focus = viewport.focus;
-    let nav = focus.nav;
-    let popup = viewport.popup;
     Fields {
-        nav: nav,
-        cached: focus.count,
-        slot: focus.slot,
-        layers: areas.count,
-        placed: areas.placed,
-        states: areas.states,
-        popup: popup,
+        nav: m.viewport.focus.nav,
+        cached: m.viewport.focus.count,
+        slot: m.viewport.focus.slot,
+        layers: m.viewport.areas.count,
+        placed: m.viewport.areas.placed,
+        states: m.viewport.areas.states,
+        popup: m.viewport.popup,
         requested_interrupt_ime: m.requested_interrupt_ime,
         everything_is_visible: m.everything_is_visible,
     }
@@ -62,151 +55,121 @@ pub fn fields_of(m: Memory) -> Fields
 pub fn with_fields(m: Memory, fields: Fields) -> Memory
     ensures { result ≡ memory_of fields (areas_of m).rows (table_in (areas_of m).ids (areas_of m).codes (areas_of m).floats) (cache_in (focus_of m).ids (focus_of m).rects) }
 {
-    let viewport = m.viewport;
-    let mut areas = viewport.areas;
-    areas.count = fields.layers;
-    areas.placed = fields.placed;
-    areas.states = fields.states;
-    let nav = fields.nav;
-    let mut focus = viewport.focus;
-    focus.nav = nav;
-    focus.count = fields.cached;
-    focus.slot = fields.slot;
-    let popup = fields.popup;
-    let after = Viewport {
-        areas: areas,
-        focus: focus,
-        popup: popup,
+    let areas = Areas {
+        count: fields.layers,
+        placed: fields.placed,
+        states: fields.states,
+        ..m.viewport.areas
+    };
+    let focus = Focus {
+        nav: fields.nav,
+        count: fields.cached,
+        slot: fields.slot,
+        ..m.viewport.focus
     };
     Memory {
-        viewport: after,
+        viewport: Viewport {
+            areas,
+            focus,
+            popup: fields.popup,
+        },
         requested_interrupt_ime: fields.requested_interrupt_ime,
         everything_is_visible: fields.everything_is_visible,
     }
 }
 
 // What a call on the fields leaves.
-pub fn done(m: Memory, r: Changed) -> Done
-    ensures { result ≡ record { memory = memory_of r.fields (areas_of m).rows (table_in (areas_of m).ids (areas_of m).codes (areas_of m).floats) (cache_in (focus_of m).ids (focus_of m).rects); refusal = r.refusal } }
+pub fn done(m: Memory, called: Result<Fields, Refusal>) -> Result<Memory, Refusal>
+    ensures { done m result ≡ done_of (fields_of m) called (areas_of m).rows (table_in (areas_of m).ids (areas_of m).codes (areas_of m).floats) (cache_in (focus_of m).ids (focus_of m).rects) }
 {
-    let fields = r.fields;
-    Done {
-        memory: with_fields(m, fields),
-        refusal: r.refusal,
-    }
-}
-
-// With other numbers in the cache's tables.
-fn with_cache(m: Memory, ids: [u64; CACHED], rects: [f32; 4 * CACHED]) -> Memory
-    ensures { result ≡ memory_of (fields_of m) (areas_of m).rows (table_in (areas_of m).ids (areas_of m).codes (areas_of m).floats) (cache_in ids rects) }
-{
-    let mut viewport = m.viewport;
-    let mut focus = viewport.focus;
-    focus.ids = ids;
-    focus.rects = rects;
-    viewport.focus = focus;
-    let mut out = m;
-    out.viewport = viewport;
-    out
+    Ok(with_fields(m, called?))
 }
 
 // ---- a pass
 
-pub fn begin_pass(m: Memory, e: Events) -> Done
-    ensures { result ≡ begun_of m (events_of e) }
+pub fn begin_pass(m: Memory, e: Events) -> Result<Memory, Refusal>
+    ensures { done m result ≡ begun_of m (events_of e) }
 {
     if EVENTS < e.count {
-        return Done {
-            memory: m,
-            refusal: BAD_LIST,
-        };
+        return Err(Refusal::BadList);
     }
-    let focus = m.viewport.focus;
-    let ids = focus.ids;
-    let rects = focus.rects;
-    let words = e.words;
-    let r = memory_core::begin_pass(fields_of(m), &ids, &rects, &words[..4 * e.count]);
-    done(m, r)
+    let focus = &m.viewport.focus;
+    done(
+        m,
+        memory_core::begin_pass(
+            fields_of(m),
+            &focus.ids,
+            &focus.rects,
+            &e.words[..4 * e.count],
+        ),
+    )
 }
 
-pub fn interested_in_focus(m: Memory, id: u64, layer: LayerId) -> Done
-    ensures { result ≡ interested_of m id layer }
+pub fn interested_in_focus(mut m: Memory, id: u64, layer: LayerId) -> Result<Memory, Refusal>
+    ensures { done m result ≡ interested_of m id layer }
 {
-    let rows = m.viewport.areas.rows;
-    let focus = m.viewport.focus;
-    let mut ids = focus.ids;
-    let mut rects = focus.rects;
-    let r = memory_core::interested_in_focus(fields_of(m), &rows, &mut ids, &mut rects, id, layer);
-    let after = with_cache(m, ids, rects);
-    done(after, r)
+    let interested = memory_core::interested_in_focus(
+        fields_of(m),
+        &m.viewport.areas.rows,
+        &mut m.viewport.focus.ids,
+        &mut m.viewport.focus.rects,
+        id,
+        layer,
+    );
+    done(m, interested)
 }
 
-pub fn ignore_focus(m: Memory, id: u64) -> Done
-    ensures { result ≡ ignored_of m id }
+pub fn ignore_focus(mut m: Memory, id: u64) -> Result<Memory, Refusal>
+    ensures { done m result ≡ ignored_of m id }
 {
-    let focus = m.viewport.focus;
-    let mut ids = focus.ids;
-    let mut rects = focus.rects;
-    let r = memory_core::ignore_focus(fields_of(m), &mut ids, &mut rects, id);
-    done(with_cache(m, ids, rects), r)
+    let ignored = memory_core::ignore_focus(
+        fields_of(m),
+        &mut m.viewport.focus.ids,
+        &mut m.viewport.focus.rects,
+        id,
+    );
+    done(m, ignored)
 }
 
-pub fn end_pass(m: Memory, u: Used) -> Done
-    ensures { result ≡ ended_of m (used_in u) }
+pub fn end_pass(mut m: Memory, u: Used) -> Result<Memory, Refusal>
+    ensures { done m result ≡ ended_of m (used_in u) }
 {
     if USED < u.count {
-        return Done {
-            memory: m,
-            refusal: BAD_LIST,
-        };
+        return Err(Refusal::BadList);
     }
-    let mut viewport = m.viewport;
-    let mut areas = viewport.areas;
-    let mut rows = areas.rows;
-    let focus = viewport.focus;
-    let mut ids = focus.ids;
-    let mut rects = focus.rects;
-    let used = u.ids;
-    let corners = u.corners;
-    let r = memory_core::end_pass(
+    let ended = memory_core::end_pass(
         fields_of(m),
-        &mut rows,
-        &mut ids,
-        &mut rects,
-        &used[..u.count],
-        &corners,
+        &mut m.viewport.areas.rows,
+        &mut m.viewport.focus.ids,
+        &mut m.viewport.focus.rects,
+        &u.ids[..u.count],
+        &u.corners,
     );
-    areas.rows = rows;
-    viewport.areas = areas;
-    let mut after = m;
-    after.viewport = viewport;
-    done(with_cache(after, ids, rects), r)
+    done(m, ended)
 }
 
 // ---- modal layers
 
-pub fn is_above_modal_layer(m: Memory, layer: LayerId) -> FlagAnswer
+pub fn is_above_modal_layer(m: Memory, layer: LayerId) -> Result<bool, Refusal>
     ensures { result ≡ above_answer m layer }
 {
-    let rows = m.viewport.areas.rows;
-    memory_core::is_above_modal_layer(fields_of(m), &rows, layer)
+    memory_core::is_above_modal_layer(fields_of(m), &m.viewport.areas.rows, layer)
 }
 
-pub fn allows_interaction(m: Memory, layer: LayerId) -> FlagAnswer
+pub fn allows_interaction(m: Memory, layer: LayerId) -> Result<bool, Refusal>
     ensures { result ≡ allows_answer m layer }
 {
-    let rows = m.viewport.areas.rows;
-    memory_core::allows_interaction(fields_of(m), &rows, layer)
+    memory_core::allows_interaction(fields_of(m), &m.viewport.areas.rows, layer)
 }
 
-pub fn set_modal_layer(m: Memory, layer: LayerId) -> Done
-    ensures { result ≡ modal_set m layer }
+pub fn set_modal_layer(m: Memory, layer: LayerId) -> Result<Memory, Refusal>
+    ensures { done m result ≡ modal_set m layer }
 {
-    let rows = m.viewport.areas.rows;
-    done(m, memory_core::set_modal_layer(fields_of(m), &rows, layer))
+    let rows = &m.viewport.areas.rows;
+    done(m, memory_core::set_modal_layer(fields_of(m), rows, layer))
 }
 
-pub fn top_modal_layer(m: Memory) -> LayerAnswer
+pub fn top_modal_layer(m: Memory) -> Option<LayerId>
     ensures { result ≡ layer_or_nothing (nav_of m).top_modal_layer }
 {
     memory_fields::top_modal_layer(fields_of(m))
@@ -220,31 +183,31 @@ pub fn focused(m: Memory) -> Option<u64>
     memory_fields::focused(fields_of(m))
 }
 
-pub fn had_focus_last_frame(m: Memory, id: u64) -> FlagAnswer
+pub fn had_focus_last_frame(m: Memory, id: u64) -> Result<bool, Refusal>
     ensures { result ≡ of_id had_focus m id }
 {
     memory_fields::had_focus_last_frame(fields_of(m), id)
 }
 
-pub fn lost_focus(m: Memory, id: u64) -> FlagAnswer
+pub fn lost_focus(m: Memory, id: u64) -> Result<bool, Refusal>
     ensures { result ≡ of_id lost_focus m id }
 {
     memory_fields::lost_focus(fields_of(m), id)
 }
 
-pub fn gained_focus(m: Memory, id: u64) -> FlagAnswer
+pub fn gained_focus(m: Memory, id: u64) -> Result<bool, Refusal>
     ensures { result ≡ of_id gained_focus m id }
 {
     memory_fields::gained_focus(fields_of(m), id)
 }
 
-pub fn has_focus(m: Memory, id: u64) -> FlagAnswer
+pub fn has_focus(m: Memory, id: u64) -> Result<bool, Refusal>
     ensures { result ≡ of_id has_focus m id }
 {
     memory_fields::has_focus(fields_of(m), id)
 }
 
-pub fn owns_ime_events(m: Memory, id: u64) -> FlagAnswer
+pub fn owns_ime_events(m: Memory, id: u64) -> Result<bool, Refusal>
     ensures { result ≡ of_id has_focus m id }
 {
     has_focus(m, id)
@@ -256,8 +219,8 @@ pub fn focus_direction(m: Memory) -> u64
     m.viewport.focus.nav.focus_direction
 }
 
-pub fn set_focus_lock_filter(m: Memory, id: u64, filter: EventFilter) -> Done
-    ensures { result ≡ filter_set m id filter }
+pub fn set_focus_lock_filter(m: Memory, id: u64, filter: EventFilter) -> Result<Memory, Refusal>
+    ensures { done m result ≡ filter_set m id filter }
 {
     done(
         m,
@@ -265,26 +228,26 @@ pub fn set_focus_lock_filter(m: Memory, id: u64, filter: EventFilter) -> Done
     )
 }
 
-pub fn request_focus(m: Memory, id: u64) -> Done
-    ensures { result ≡ requested m id }
+pub fn request_focus(m: Memory, id: u64) -> Result<Memory, Refusal>
+    ensures { done m result ≡ requested m id }
 {
     done(m, memory_fields::request_focus(fields_of(m), id))
 }
 
-pub fn request_focus_next_frame(m: Memory, id: u64) -> Done
-    ensures { result ≡ requested_next m id }
+pub fn request_focus_next_frame(m: Memory, id: u64) -> Result<Memory, Refusal>
+    ensures { done m result ≡ requested_next m id }
 {
     done(m, memory_fields::request_focus_next_frame(fields_of(m), id))
 }
 
-pub fn surrender_focus(m: Memory, id: u64) -> Done
-    ensures { result ≡ surrendered m id }
+pub fn surrender_focus(m: Memory, id: u64) -> Result<Memory, Refusal>
+    ensures { done m result ≡ surrendered m id }
 {
     done(m, memory_fields::surrender_focus(fields_of(m), id))
 }
 
-pub fn move_focus(m: Memory, direction: u64) -> Done
-    ensures { result ≡ moved m direction }
+pub fn move_focus(m: Memory, direction: u64) -> Result<Memory, Refusal>
+    ensures { done m result ≡ moved m direction }
 {
     done(m, memory_fields::move_focus(fields_of(m), direction))
 }
@@ -300,9 +263,10 @@ pub fn stop_text_input(m: Memory) -> Memory
 pub fn interrupt_ime(m: Memory) -> Memory
     ensures { result ≡ with_ime m true }
 {
-    let mut out = m;
-    out.requested_interrupt_ime = true;
-    out
+    Memory {
+        requested_interrupt_ime: true,
+        ..m
+    }
 }
 
 pub fn should_interrupt_ime(m: Memory) -> bool
@@ -320,7 +284,8 @@ pub fn everything_is_visible(m: Memory) -> bool
 pub fn set_everything_is_visible(m: Memory, value: bool) -> Memory
     ensures { result ≡ with_everything m value }
 {
-    let mut out = m;
-    out.everything_is_visible = value;
-    out
+    Memory {
+        everything_is_visible: value,
+        ..m
+    }
 }

@@ -70,9 +70,9 @@ abbrev pub memory_of : Fields → List ℕ → Table → Cache → Memory
 memory_of f rows map cache = record { viewport = record { areas = areas_in f rows map; focus = focus_in f cache; popup = f.popup }; requested_interrupt_ime = f.requested_interrupt_ime; everything_is_visible = f.everything_is_visible }
 
 -- what a call has left: by the memory or the fields that it answers where it is taken, and those that were there before where it is refused
-abbrev pub done_by_value : Memory → Result Memory Refusal → Done
-done_by_value before (Ok after) = record { memory = after; refusal = none }
-done_by_value before (Err r) = record { memory = before; refusal = number_of r }
+abbrev pub done : Memory → Result Memory Refusal → Done
+done before (Ok after) = record { memory = after; refusal = none }
+done before (Err r) = record { memory = before; refusal = number_of r }
 
 abbrev pub done_of : Fields → Result Fields Refusal → List ℕ → Table → Cache → Done
 done_of before (Ok after) rows map cache = record { memory = memory_of after rows map cache; refusal = none }
