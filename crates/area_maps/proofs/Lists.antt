@@ -14,8 +14,9 @@ use Rattle.stacking.specs.Stacking.{holds}
 use Rattle.stacking.proofs.Lists.{All}
 use Rattle.layer_rows.specs.declared.Row.{Row}
 use Rattle.layer_rows.specs.Rows.{spot_in}
-use Rattle.layer_queries.specs.declared.LayerAnswer.TheVariants.{Nothing, Is}
-use Rattle.layer_queries.specs.Queries.{or_else, last_of, rank_in}
+use Rattle.std.specs.Prelude.{None, Some}
+use Rattle.std.specs.Option.{option_or}
+use Rattle.layer_queries.specs.Queries.{last_of, rank_in}
 use Rattle.area_maps.specs.Egui.{place_in, topmost}
 use Rattle.area_maps.specs.Meaning.{layers_in}
 
@@ -78,14 +79,14 @@ unfolding last_of topmost All
 last_topmost p q [] h = refl
 last_topmost p q (r ∷ rows) h = rw (h.0, last_topmost p q rows h.1)
 
-pub topmost_only : (p : LayerId → Bool) (only : LayerId) → ((l : LayerId) → p l ≡ true → l ≡ only) → (order : List LayerId) → topmost p order ≡ cond (some p order) (Is only) Nothing
+pub topmost_only : (p : LayerId → Bool) (only : LayerId) → ((l : LayerId) → p l ≡ true → l ≡ only) → (order : List LayerId) → topmost p order ≡ cond (some p order) (Some only) None
 unfolding topmost some
 topmost_only p only h [] = refl
 topmost_only p only h (l ∷ order) = rw (topmost_only p only h order) (go (p l) (some p order) (h l))
   where
-    go : (s t : Bool) → (s ≡ true → l ≡ only) → or_else (cond t (Is only) Nothing) (cond s (Is l) Nothing) ≡ cond (s || t) (Is only) Nothing
+    go : (s t : Bool) → (s ≡ true → l ≡ only) → option_or (cond t (Some only) None) (cond s (Some l) None) ≡ cond (s || t) (Some only) None
     go true true e = refl
-    go true false e = ap Is (e refl)
+    go true false e = ap Some (e refl)
     go false true e = refl
     go false false e = refl
 

@@ -17,10 +17,9 @@ use Rattle.layer_rows.specs.declared.Row.{Row}
 use Rattle.layer_rows.specs.Rows.{row_of}
 use Rattle.layer_sort.proofs.Meaning.{row_layer, own_rows}
 use Rattle.layer_queries.specs.declared.Listing.TheVariants.{All as Whole, Visible, Children}
-use Rattle.layer_queries.specs.declared.LayerAnswer.TheVariants.{Nothing, Is}
 use Rattle.layer_queries.specs.Queries.{shown_last, is_visible_row, is_sublayer_row, is_child_row, is_top_row, is_window_row, is_listed, rank_in, compared_by, last_of, parent_in}
 use Rattle.layer_table.specs.Layers.{pair_refusal, other_parent, family_refusal}
-use Rattle.std.specs.Prelude.{Option, None}
+use Rattle.std.specs.Prelude.{Option, None, Some}
 use Rattle.area.specs.declared.AreaState.{AreaState}
 use Rattle.area_table.specs.Table.{Table, Entry, held_of, entries_of}
 use Rattle.area_table.proofs.Entries.{entries_get}
@@ -92,7 +91,7 @@ module _ (placed : ℕ) (rows : List Row) (entries : List Entry) where
     unfolding Egui.parent_layer
     query_parent l = sym (topmost_only (λ x. child_in rows x l) (parent_of (row_of rows l)) (is_parent (row_of rows l)) (layers_in rows) ∙ rw (← query_sublayer l) (go (eqb (row_of rows l).parent 0)))
       where
-        go : (t : Bool) → cond (not t) (Is (parent_of (row_of rows l))) Nothing ≡ cond t Nothing (Is (parent_of (row_of rows l)))
+        go : (t : Bool) → cond (not t) (Some (parent_of (row_of rows l))) None ≡ cond t None (Some (parent_of (row_of rows l)))
         go true = refl
         go false = refl
 

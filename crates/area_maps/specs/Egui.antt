@@ -1,5 +1,6 @@
 -- Areas of memory/mod.rs (lines 1199 to 1440) in its own terms, its maps, sets and lists. Definitions only.
-use Rattle.std.specs.Prelude.{Option, ℕ, suc, Bool, false, cond, not, ◌&&◌, ◌||◌, List, [], ◌∷◌, ◌++◌, eqb, ltb, length}
+use Rattle.std.specs.Prelude.{Option, None, Some, ℕ, suc, Bool, false, cond, not, ◌&&◌, ◌||◌, List, [], ◌∷◌, ◌++◌, eqb, ltb, length}
+use Rattle.std.specs.Option.{option_or}
 use Rattle.refusal.specs.Refusal.{none, full, bad_family, lowest}
 use Rattle.emath.specs.declared.Pos2.{Pos2}
 use Rattle.area.specs.declared.AreaState.{AreaState}
@@ -9,9 +10,7 @@ use Rattle.layers.specs.Layers.{is_layer, layer_refusal}
 use Rattle.stacking.specs.Lists.{keep, some, each}
 use Rattle.stacking.specs.Stacking.{stacked, holds}
 use Rattle.area_table.specs.Table.{Entry, get_in, insert_in}
-use Rattle.layer_queries.specs.declared.LayerAnswer.{LayerAnswer}
-use Rattle.layer_queries.specs.declared.LayerAnswer.TheVariants.{Nothing, Is}
-use Rattle.layer_queries.specs.Queries.{or_else, compared}
+use Rattle.layer_queries.specs.Queries.{compared}
 use Rattle.areas.specs.declared.Window.{Window}
 use Rattle.layer_table.specs.Layers.{pair_refusal}
 use Rattle.area_stack.specs.Stack.{hit_by, is_interactable as interactableIn}
@@ -48,9 +47,9 @@ place_in [] layer = 0
 place_in (l ∷ order) layer = cond (is_layer l layer) 1 (cond (holds order layer) (suc (place_in order layer)) 0)
 
 -- the last layer of which something holds
-unfoldable pub topmost : (LayerId → Bool) → List LayerId → LayerAnswer
-topmost p [] = Nothing
-topmost p (l ∷ order) = or_else (topmost p order) (cond (p l) (Is l) Nothing)
+unfoldable pub topmost : (LayerId → Bool) → List LayerId → Option LayerId
+topmost p [] = None
+topmost p (l ∷ order) = option_or (topmost p order) (cond (p l) (Some l) None)
 
 -- more layers than the limit
 abbrev pub full_refusal : ℕ → List LayerId → ℕ
@@ -87,17 +86,17 @@ module _ (m : Areas) where
   compare_order a b = cond (eqb a.order b.order) (compared (m.order_map a) (m.order_map b)) (compared a.order b.order)
 
   -- from the top, the first that is visible, and whose area is interactable and contains the point
-  unfoldable pub layer_id_at : Pos2 → LayerAnswer
+  unfoldable pub layer_id_at : Pos2 → Option LayerId
   layer_id_at pos = topmost (λ l. is_visible l && hit_by pos (get l.id)) m.order
 
   -- the parent of a layer, which has at most one (refusal 9)
-  unfoldable pub parent_layer : LayerId → LayerAnswer
+  unfoldable pub parent_layer : LayerId → Option LayerId
   parent_layer layer = topmost (λ p. m.sublayers p layer) m.order
 
   abbrev pub is_sublayer : LayerId → Bool
   is_sublayer layer = some (λ p. m.sublayers p layer) m.order
 
-  unfoldable pub top_layer_id : ℕ → LayerAnswer
+  unfoldable pub top_layer_id : ℕ → Option LayerId
   top_layer_id order = topmost (λ l. eqb l.order order && not (is_sublayer l)) m.order
 
   -- listings, in stack order (document 01, "Map order")

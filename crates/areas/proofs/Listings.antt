@@ -77,8 +77,8 @@ module _ (listing : Listing) where
         (l, rw (drop-drop (next - k) k rows, n) at p)
 
 -- ---- the layers of a listing, all written
-pub all_listed : (a : Areas) (listing : Listing) (rest now : List LayerId) (n : ℕ) → Written (replicate layers no_layer) (layers_in listing (stack_of a)) rest now n → rest ≡ [] → record { refusal = 0; count = n; layers = now } ≡ listed (layers_of a listing)
+pub all_listed : (a : Areas) (listing : Listing) (rows : List Row) (rest now : List LayerId) (n : ℕ) → rows ≡ stack_of a → Written (replicate layers no_layer) (layers_in listing rows) rest now n → rest ≡ [] → record { count = n; layers = now } ≡ listed (layers_of a listing)
 unfolding layers_in layers_of
-all_listed a listing rest now n h e =
-    let (p, q) = all_written (replicate layers no_layer) (layers_in listing (stack_of a)) rest now n h e in
-    rw (p, q)
+all_listed a listing rows rest now n r h e =
+    let (p, q) = all_written (replicate layers no_layer) (layers_in listing rows) rest now n h e in
+    rw (← r, p, q)

@@ -1,28 +1,18 @@
 -- Laws of the record with another stack, from what a call on its rows gave. Assumes nothing.
-use mathlib.Core.Path.{◌≡◌, refl, sym, ◌∙◌}
+use mathlib.Core.Path.{◌≡◌, sym, ◌∙◌}
 use mathlib.Core.List.{List}
-use Prim.Native.Nat.{ℕ, zero, suc, ◌/◌, min}
+use Prim.Native.Nat.{ℕ, ◌/◌, min}
 use lib.ListN.{length}
-use Rattle.refusal.specs.Refusal.{kept}
-use Rattle.layer_rows.specs.declared.Row.{Row}
 use Rattle.layer_rows.specs.Rows.{rows_on}
 use Rattle.layer_rows.proofs.Rows.{held_length}
 use Rattle.layer_sort.specs.Sort.{end_rows}
 use Rattle.layer_sort.proofs.Meaning.{ended_length}
 use Rattle.areas.specs.declared.Areas.{Areas}
-use Rattle.areas.specs.Areas.{stack_of, changed_to, pass_ended}
+use Rattle.areas.specs.Areas.{stack_of, pass_ended}
 
 module _ (a : Areas) where
   abbrev with : ℕ → ℕ → List ℕ → Areas
   with count placed rows = record { count = count; placed = placed; states = a.states; rows = rows; ids = a.ids; codes = a.codes; floats = a.floats }
-
-  kept_is : (n : ℕ) (stack : List Row) → record { refusal = n; areas = with (kept n a.count (length stack)) a.placed (kept n a.rows (rows_on a.rows stack)) } ≡ changed_to n a stack
-  kept_is zero stack = refl
-  kept_is (suc n) stack = refl
-
-  pub changed_is : (n refusal count : ℕ) (rows : List ℕ) (stack : List Row) → (n ≡ refusal) × (count ≡ kept n a.count (length stack)) × (rows ≡ kept n a.rows (rows_on a.rows stack))
-      → record { refusal = n; areas = with count a.placed rows } ≡ changed_to refusal a stack
-  changed_is n refusal count rows stack (e, p, q) = rw (p, q, ← e) (kept_is n stack)
 
   pub ended_is : (n : ℕ) (rows : List ℕ) → (n ≡ min a.count (length a.rows / 8)) × (rows ≡ rows_on a.rows (end_rows (stack_of a))) → with n n rows ≡ pass_ended a
   unfolding pass_ended

@@ -79,8 +79,9 @@ module _ (t : Table) (states : ℕ) where
         (l, rw (drop-drop (next - k) k rows, n) at p)
 
 -- ---- the windows, all written
-pub all_windows : (a : Areas) (rest now : List Window) (n : ℕ) → Written (replicate layers no_window) (windows_in (areas_in a) a.states (stack_of a)) rest now n → rest ≡ [] → record { count = n; windows = now } ≡ windows_listed (windows_of a)
+pub all_windows : (a : Areas) (rows : List Row) (t : Table) (states : ℕ) (rest now : List Window) (n : ℕ) → rows ≡ stack_of a → t ≡ areas_in a → states ≡ a.states
+    → Written (replicate layers no_window) (windows_in t states rows) rest now n → rest ≡ [] → record { count = n; windows = now } ≡ windows_listed (windows_of a)
 unfolding windows_in windows_of
-all_windows a rest now n h e =
-    let (p, q) = all_written (replicate layers no_window) (windows_in (areas_in a) a.states (stack_of a)) rest now n h e in
-    rw (p, q)
+all_windows a rows t states rest now n r m s h e =
+    let (p, q) = all_written (replicate layers no_window) (windows_in t states rows) rest now n h e in
+    rw (← r, ← m, ← s, p, q)

@@ -1,10 +1,11 @@
 -- Areas (memory/mod.rs, lines 1199 to 1440): the record by value. What it means in egui's terms is crate `area_maps`; a reader needs only that.
 -- Definitions only.
-use Rattle.std.specs.Prelude.{Option, None, Some, ℕ, ◌*◌, List, [], ◌∷◌, map, length, replicate}
+use Rattle.std.specs.Prelude.{Option, None, Some, ℕ, ◌*◌, List, [], ◌∷◌, map, length, replicate, Result}
 use Rattle.std.specs.Float.{binary32}
 use Rattle.std.specs.Float.Ieee.{of_bits}
 use Rattle.refusal.specs.Limits.{layers}
-use Rattle.refusal.specs.Refusal.{answered, kept}
+use Rattle.refusal.specs.declared.Refusal.{Refusal}
+use Rattle.refusal.specs.Refusal.{answer, kept}
 use Rattle.area.specs.declared.AreaState.{AreaState}
 use Rattle.area.specs.Area.{default_state}
 use Rattle.layers.specs.declared.LayerId.{LayerId}
@@ -21,7 +22,6 @@ use Rattle.layer_table.specs.Layers.{room_in, to_top, top_refusal, with_sublayer
 use Rattle.area_table.specs.Table.{Table, table_in}
 use Rattle.area_stack.specs.Stack.{Tables, set_state_refusal, set_state_of, window_state}
 use Rattle.areas.specs.declared.Areas.{Areas}
-use Rattle.areas.specs.declared.Changed.{Changed}
 use Rattle.areas.specs.declared.Layers.{Layers}
 use Rattle.areas.specs.declared.Window.{Window}
 use Rattle.areas.specs.declared.Windows.{Windows}
@@ -45,6 +45,11 @@ with_stack a placed stack = record { count = length stack; placed = placed; stat
 
 abbrev pub stack_of : Areas → List Row
 stack_of a = held_rows a.count a.rows
+
+-- what a call comes to: by what number it is refused, 0 for none, and the record after it
+pub record Changed : Type 0 where
+  pub refusal : ℕ
+  pub areas : Areas
 
 unfoldable pub state_set : Areas → LayerId → AreaState → Changed
 state_set a layer s = record { refusal = set_state_refusal (tables_of a) layer s; areas = areas_of a.placed (set_state_of (tables_of a) layer s) }
@@ -70,13 +75,11 @@ unfoldable pub layers_of : Areas → Listing → List LayerId
 layers_of a listing = map (λ (r : Row). r.layer) (keep (is_listed listing) (stack_of a))
 
 abbrev pub listed : List LayerId → Layers
-listed list = record { refusal = 0; count = length list; layers = written_on (replicate layers no_layer) list }
+listed list = record { count = length list; layers = written_on (replicate layers no_layer) list }
 
-abbrev pub no_layers : ℕ → Layers
-no_layers n = record { refusal = n; count = 0; layers = replicate layers no_layer }
-
-unfoldable pub children_answer : Areas → LayerId → Layers
-children_answer a layer = answered listed no_layers (layer_refusal layer) (layers_of a (Children layer))
+-- nothing is listed where the layer is refused
+unfoldable pub children_answer : Areas → LayerId → Result Layers Refusal
+children_answer a layer = answer (layer_refusal layer) (listed (layers_of a (Children layer)))
 
 abbrev pub window_in : LayerId → Option AreaState → List Window
 window_in layer None = []

@@ -1,23 +1,25 @@
 // `Areas` of memory/mod.rs as a record by value, over the functions on lent tables (crate `area_stack` and those below it).
 #![tactic(auto)]
 
-ghost use Rattle.std.specs.Prelude.{◌≡◌};
-ghost use Rattle.refusal.specs.Refusal.{lowest, code_refusal};
+ghost use Rattle.std.specs.Prelude.{◌≡◌, IfOk};
+ghost use Rattle.refusal.specs.Refusal.{lowest, number_in, id_refusal, code_refusal, answer};
 ghost use Rattle.refusal.specs.Limits.{last_order};
 ghost use Rattle.layers.specs.Layers.{layer_refusal};
-ghost use Rattle.area_table.specs.Table.{table_in, held_in, held_of};
+ghost use Rattle.area_table.specs.Table.{lent as areas_lent, held_in, held_of};
 ghost use Rattle.layer_rows.specs.Rows.{held_rows, row_of};
-ghost use Rattle.layer_queries.specs.Queries.{is_top_row, shown_last, is_visible_row, is_sublayer_row, compared_by, parent_in, last_of, flag_answer, layer_answer, ordering_answer};
+ghost use Rattle.layer_queries.specs.Queries.{is_top_row, shown_last, is_visible_row, is_sublayer_row, compared_by, parent_in, last_of};
 ghost use Rattle.layer_queries.specs.declared.Listing.TheVariants.{All, Visible};
-ghost use Rattle.area_stack.specs.Stack.{state_answer, interactable_answer, layer_id_at};
-ghost use Rattle.areas.specs.Areas.{new_areas, tables_of, state_set, to_top_of, sublayer_set, pass_ended, layers_of, listed, children_answer, windows_of, windows_listed};
+ghost use Rattle.area_stack.specs.Stack.{is_interactable, layer_id_at};
+ghost use Rattle.areas.specs.Areas.{areas_in, new_areas, tables_of, stack_of, state_set, to_top_of, sublayer_set, pass_ended, layers_of, listed, children_answer, windows_of, windows_listed};
 
 use area::AreaState;
-use area_stack::StateAnswer;
+use area_stack::Counts;
+use area_table::AreaTable;
 use emath::Pos2;
-use layer_queries::{FlagAnswer, LayerAnswer, Listing, OrderingAnswer};
+use layer_queries::Listing;
+use layer_rows::LayerRows;
 use layers::LayerId;
-use refusal::{LAYERS, NONE};
+use refusal::{LAYERS, Refusal};
 
 // How many layers are held, how many of them had a place at the last end of a pass, and how many areas have a state; the rows of the layers, and of the states.
 #[derive(Clone, Copy)]
@@ -31,16 +33,9 @@ pub struct Areas {
     pub floats: [f32; 4 * LAYERS],
 }
 
-#[derive(Clone, Copy)]
-pub struct Changed {
-    pub refusal: u64,
-    pub areas: Areas,
-}
-
-// Layers in stack order, and how many they are; the places after them are blank. No layers where the call is refused.
+// Layers in stack order, and how many they are; the places after them are blank. There is no heap: an array with a count.
 #[derive(Clone, Copy)]
 pub struct Layers {
-    pub refusal: u64,
     pub count: usize,
     pub layers: [LayerId; LAYERS],
 }
@@ -52,6 +47,7 @@ pub struct Window {
     pub state: AreaState,
 }
 
+// There is no heap: an array with a count.
 #[derive(Clone, Copy)]
 pub struct Windows {
     pub count: usize,
@@ -74,10 +70,12 @@ impl Areas {
         }
     }
 
-    pub fn set_state(mut self, layer: LayerId, state: AreaState) -> Changed
-        ensures { result ≡ state_set self layer state }
+    #[tactic(auto, unfolding(crate::specs::Areas::state_set))]
+    pub fn set_state(mut self, layer: LayerId, state: AreaState) -> Result<Areas, Refusal>
+        ensures refusal { number_in result ≡ (state_set self layer state).refusal }
+        ensures areas { IfOk result (λ a. a ≡ (state_set self layer state).areas) }
     {
-        let r = area_stack::set_state(
+        let Counts { count, states } = area_stack::set_state(
             &mut self.rows,
             &mut self.ids,
             &mut self.codes,
@@ -86,39 +84,32 @@ impl Areas {
             self.states,
             layer,
             state,
-        );
-        self.count = r.count;
-        self.states = r.states;
-        Changed {
-            refusal: r.refusal,
-            areas: self,
-        }
+        )?;
+        Ok(Areas {
+            count,
+            states,
+            ..self
+        })
     }
 
-    #[tactic(auto, using(crate::proofs::Stacks::changed_is), unfolding(crate::specs::Areas::to_top_of))]
-    pub fn move_to_top(mut self, layer: LayerId) -> Changed
-        ensures { result ≡ to_top_of self layer }
+    #[tactic(auto, unfolding(crate::specs::Areas::to_top_of))]
+    pub fn move_to_top(mut self, layer: LayerId) -> Result<Areas, Refusal>
+        ensures refusal { number_in result ≡ (to_top_of self layer).refusal }
+        ensures areas { IfOk result (λ a. a ≡ (to_top_of self layer).areas) }
     {
         let count = self.count;
-        let r = layer_table::move_to_top(&mut self.rows, count, layer);
-        self.count = r.count;
-        Changed {
-            refusal: r.refusal,
-            areas: self,
-        }
+        let count = layer_table::move_to_top(&mut self.rows, count, layer)?;
+        Ok(Areas { count, ..self })
     }
 
-    #[tactic(auto, using(crate::proofs::Stacks::changed_is), unfolding(crate::specs::Areas::sublayer_set))]
-    pub fn set_sublayer(mut self, parent: LayerId, child: LayerId) -> Changed
-        ensures { result ≡ sublayer_set self parent child }
+    #[tactic(auto, unfolding(crate::specs::Areas::sublayer_set))]
+    pub fn set_sublayer(mut self, parent: LayerId, child: LayerId) -> Result<Areas, Refusal>
+        ensures refusal { number_in result ≡ (sublayer_set self parent child).refusal }
+        ensures areas { IfOk result (λ a. a ≡ (sublayer_set self parent child).areas) }
     {
         let count = self.count;
-        let r = layer_table::set_sublayer(&mut self.rows, count, parent, child);
-        self.count = r.count;
-        Changed {
-            refusal: r.refusal,
-            areas: self,
-        }
+        let count = layer_table::set_sublayer(&mut self.rows, count, parent, child)?;
+        Ok(Areas { count, ..self })
     }
 
     #[tactic(auto, using(crate::proofs::Stacks::ended_is))]
@@ -127,9 +118,11 @@ impl Areas {
     {
         let count = self.count;
         let n = layer_sort::end_pass(&mut self.rows, count);
-        self.count = n;
-        self.placed = n;
-        self
+        Areas {
+            count: n,
+            placed: n,
+            ..self
+        }
     }
 
     // Forgets everything, as `Memory::reset_areas` makes each viewport's `Areas` anew.
@@ -139,150 +132,149 @@ impl Areas {
         Areas::new()
     }
 
+    // ---- the queries
+
+    fn stack(&self) -> LayerRows<'_>
+        ensures { (result.count ≡ self.now.count) × (result.words.now ≡ self.now.rows) }
+    {
+        LayerRows {
+            count: self.count,
+            words: &self.rows,
+        }
+    }
+
+    fn table(&self) -> AreaTable<'_>
+        ensures { (result.count ≡ self.now.states) × (areas_lent result ≡ areas_in self.now) }
+    {
+        AreaTable {
+            count: self.states,
+            ids: &self.ids,
+            codes: &self.codes,
+            floats: &self.floats,
+        }
+    }
+
     // egui's `count`: how many areas have a state. (The field `count` is the number of layers.)
-    pub fn count(self) -> usize
-        ensures { result ≡ held_in self.states (table_in self.ids self.codes self.floats) }
+    pub fn count(&self) -> usize
+        ensures { result ≡ held_in self.now.states (areas_in self.now) }
     {
-        area_table::len(&self.ids, &self.codes, &self.floats, self.states)
+        self.table().held()
     }
 
-    pub fn get(self, id: u64) -> StateAnswer
-        ensures { result ≡ state_answer id (held_of (table_in self.ids self.codes self.floats) self.states 0 id) }
+    pub fn get(&self, id: u64) -> Result<Option<AreaState>, Refusal>
+        ensures { result ≡ answer (id_refusal id) (held_of (areas_in self.now) self.now.states 0 id) }
     {
-        area_stack::get(&self.ids, &self.codes, &self.floats, self.states, id)
+        area_stack::get(self.table(), id)
     }
 
-    pub fn is_interactable(self, layer: LayerId) -> FlagAnswer
-        ensures { result ≡ interactable_answer layer (held_of (table_in self.ids self.codes self.floats) self.states 0 layer.id) }
+    pub fn is_interactable(&self, layer: LayerId) -> Result<bool, Refusal>
+        ensures { result ≡ answer (layer_refusal layer) (is_interactable (held_of (areas_in self.now) self.now.states 0 layer.id)) }
     {
-        area_stack::is_interactable(&self.ids, &self.codes, &self.floats, self.states, layer)
+        area_stack::is_interactable(self.table(), layer)
     }
 
-    pub fn compare_order(self, a: LayerId, b: LayerId) -> OrderingAnswer
-        ensures { result ≡ ordering_answer (lowest (layer_refusal a) (layer_refusal b)) (compared_by (held_rows self.placed self.rows) a b) }
+    pub fn compare_order(&self, a: LayerId, b: LayerId) -> Result<u64, Refusal>
+        ensures { result ≡ answer (lowest (layer_refusal a) (layer_refusal b)) (compared_by (held_rows self.now.placed self.now.rows) a b) }
     {
-        layer_queries::compare_order(&self.rows, self.placed, a, b)
+        let with_a_place = LayerRows {
+            count: self.placed,
+            words: &self.rows,
+        };
+        layer_queries::compare_order(with_a_place, a, b)
     }
 
     // `to_global` is empty.
-    pub fn layer_id_at(self, pos: Pos2) -> LayerAnswer
-        ensures { result ≡ layer_id_at (tables_of self) pos }
+    pub fn layer_id_at(&self, pos: Pos2) -> Option<LayerId>
+        ensures { result ≡ layer_id_at (tables_of self.now) pos }
     {
-        area_stack::layer_id_at(
-            &self.rows,
-            &self.ids,
-            &self.codes,
-            &self.floats,
-            self.count,
-            self.states,
-            pos,
-        )
+        area_stack::layer_id_at(self.stack(), self.table(), pos)
     }
 
-    pub fn visible_last_frame(self, layer: LayerId) -> FlagAnswer
-        ensures { result ≡ flag_answer (layer_refusal layer) (shown_last (row_of (held_rows self.count self.rows) layer)) }
+    pub fn visible_last_frame(&self, layer: LayerId) -> Result<bool, Refusal>
+        ensures { result ≡ answer (layer_refusal layer) (shown_last (row_of (stack_of self.now) layer)) }
     {
-        layer_queries::visible_last_frame(&self.rows, self.count, layer)
+        layer_queries::visible_last_frame(self.stack(), layer)
     }
 
-    pub fn is_visible(self, layer: LayerId) -> FlagAnswer
-        ensures { result ≡ flag_answer (layer_refusal layer) (is_visible_row (row_of (held_rows self.count self.rows) layer)) }
+    pub fn is_visible(&self, layer: LayerId) -> Result<bool, Refusal>
+        ensures { result ≡ answer (layer_refusal layer) (is_visible_row (row_of (stack_of self.now) layer)) }
     {
-        layer_queries::is_visible(&self.rows, self.count, layer)
+        layer_queries::is_visible(self.stack(), layer)
     }
 
-    pub fn is_sublayer(self, layer: LayerId) -> FlagAnswer
-        ensures { result ≡ flag_answer (layer_refusal layer) (is_sublayer_row (row_of (held_rows self.count self.rows) layer)) }
+    pub fn is_sublayer(&self, layer: LayerId) -> Result<bool, Refusal>
+        ensures { result ≡ answer (layer_refusal layer) (is_sublayer_row (row_of (stack_of self.now) layer)) }
     {
-        layer_queries::is_sublayer(&self.rows, self.count, layer)
+        layer_queries::is_sublayer(self.stack(), layer)
     }
 
-    pub fn parent_layer(self, layer: LayerId) -> LayerAnswer
-        ensures { result ≡ layer_answer (layer_refusal layer) (parent_in (row_of (held_rows self.count self.rows) layer)) }
+    pub fn parent_layer(&self, layer: LayerId) -> Result<Option<LayerId>, Refusal>
+        ensures { result ≡ answer (layer_refusal layer) (parent_in (row_of (stack_of self.now) layer)) }
     {
-        layer_queries::parent_layer(&self.rows, self.count, layer)
+        layer_queries::parent_layer(self.stack(), layer)
     }
 
-    pub fn top_layer_id(self, order: u64) -> LayerAnswer
-        ensures { result ≡ layer_answer (code_refusal order last_order) (last_of (is_top_row order) (held_rows self.count self.rows)) }
+    pub fn top_layer_id(&self, order: u64) -> Result<Option<LayerId>, Refusal>
+        ensures { result ≡ answer (code_refusal order last_order) (last_of (is_top_row order) (stack_of self.now)) }
     {
-        layer_queries::top_layer_id(&self.rows, self.count, order)
+        layer_queries::top_layer_id(self.stack(), order)
     }
 
     // ---- listings, in stack order
 
     #[tactic(auto, using(crate::proofs::Listings::inside))]
-    fn list(self, listing: Listing) -> Layers
-        ensures { result ≡ listed (layers_of self listing) }
+    fn list(&self, listing: Listing) -> Layers
+        ensures { result ≡ listed (layers_of self.now listing) }
     {
+        let stack = self.stack();
         let mut layers = [LayerId { order: 0, id: 0 }; LAYERS];
-        let mut n = 0;
+        let mut count = 0;
         let mut from = 0;
-        while let Some((next, layer)) = area_stack::next_layer(
-            &self.rows, self.count, from, listing,
-        ) {
-            layers[n] = layer;
-            n += 1;
+        while let Some((next, layer)) = area_stack::next_layer(stack, from, listing) {
+            layers[count] = layer;
+            count += 1;
             from = next;
         }
-        Layers {
-            refusal: NONE,
-            count: n,
-            layers,
-        }
+        Layers { count, layers }
     }
 
-    pub fn order(self) -> Layers
-        ensures { result ≡ listed (layers_of self All) }
+    pub fn order(&self) -> Layers
+        ensures { result ≡ listed (layers_of self.now All) }
     {
         self.list(Listing::All)
     }
 
-    pub fn visible_layer_ids(self) -> Layers
-        ensures { result ≡ listed (layers_of self Visible) }
+    pub fn visible_layer_ids(&self) -> Layers
+        ensures { result ≡ listed (layers_of self.now Visible) }
     {
         self.list(Listing::Visible)
     }
 
     #[tactic(auto, unfolding(crate::specs::Areas::children_answer))]
-    pub fn child_layers(self, layer: LayerId) -> Layers
-        ensures { result ≡ children_answer self layer }
+    pub fn child_layers(&self, layer: LayerId) -> Result<Layers, Refusal>
+        ensures { result ≡ children_answer self.now layer }
     {
-        let refusal = layer.refusal();
-        if refusal != NONE {
-            return Layers {
-                refusal,
-                count: 0,
-                layers: [LayerId { order: 0, id: 0 }; LAYERS],
-            };
-        }
-        self.list(Listing::Children(layer))
+        layer.check()?;
+        Ok(self.list(Listing::Children(layer)))
     }
 
     #[tactic(auto, using(crate::proofs::WindowRows::inside))]
-    pub fn visible_windows(self) -> Windows
-        ensures { result ≡ windows_listed (windows_of self) }
+    pub fn visible_windows(&self) -> Windows
+        ensures { result ≡ windows_listed (windows_of self.now) }
     {
+        let (stack, areas) = (self.stack(), self.table());
         let blank = Window {
             layer: LayerId { order: 0, id: 0 },
             state: AreaState::new(),
         };
         let mut windows = [blank; LAYERS];
-        let mut n = 0;
+        let mut count = 0;
         let mut from = 0;
-        while let Some((next, layer, state)) = area_stack::next_window(
-            &self.rows,
-            &self.ids,
-            &self.codes,
-            &self.floats,
-            self.count,
-            self.states,
-            from,
-        ) {
-            windows[n] = Window { layer, state };
-            n += 1;
+        while let Some((next, layer, state)) = area_stack::next_window(stack, areas, from) {
+            windows[count] = Window { layer, state };
+            count += 1;
             from = next;
         }
-        Windows { count: n, windows }
+        Windows { count, windows }
     }
 }

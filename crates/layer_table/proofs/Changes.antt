@@ -2,7 +2,7 @@
 use mathlib.Core.Path.{◌≡◌, refl, sym, ap, ◌∙◌}
 use mathlib.Core.Bool.{Bool, true, false, cond}
 use mathlib.Core.List.{List}
-use Prim.Native.Nat.{ℕ, zero, suc, ◌+◌, ◌*◌, ◌/◌, min, max, ◌<◌, ◌≤◌}
+use Prim.Native.Nat.{ℕ, ◌+◌, ◌*◌, ◌/◌, min, max, ◌<◌, ◌≤◌}
 use native.Mathlib.Omega.{arith}
 use lib.Dec.{ltb}
 use lib.ListN.{length, get_or}
@@ -27,10 +27,6 @@ module _ (f : Row → Row) (count : ℕ) (w : List ℕ) (layer : LayerId) (k n m
   changed l row r d p here g = (marked_count count w n q f layer k m e h, g ∙ mark_put f count w layer k r e (p ∙ ap f (of_spot count w layer k row e d)) (omega arith))
 
 -- ---- what is refused
-pub as_before : {A : Type 0} (n : ℕ) (before after : A) → (n ≡ 0 → ⊥) → before ≡ kept n before after
-as_before zero before after h = absurd (h refl)
-as_before (suc n) before after h = refl
-
 pub room_left : (room n : ℕ) → full_refusal room n ≡ 0 → n ≤ room
 room_left room n = go (ltb room n) refl
   where

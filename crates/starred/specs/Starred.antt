@@ -1,6 +1,6 @@
 -- Document 01's starred panel situations as one table: each line is what goes in and what must come out.
 -- Definitions only.
-use Rattle.std.specs.Prelude.{ℕ, ◌*◌, Bool, true, false, ◌&&◌, List, [], ◌∷◌, ◌++◌, eqb, Float, Result, Ok, Err}
+use Rattle.std.specs.Prelude.{ℕ, ◌*◌, Bool, true, false, ◌&&◌, List, [], ◌∷◌, ◌++◌, eqb, Float, Some, Result, Ok, Err}
 use Rattle.refusal.specs.declared.Refusal.{Refusal}
 use Rattle.refusal.specs.Refusal.{answer}
 use Rattle.emath.specs.declared.Pos2.{Pos2}
@@ -10,7 +10,6 @@ use Rattle.std.specs.Float.Ieee.{round, to_bits}
 use Rattle.emath.specs.declared.Rect.{Rect}
 use Rattle.area.specs.declared.AreaState.{AreaState}
 use Rattle.area.specs.declared.PivotPos.TheVariants as PivotPos
-use Rattle.area.specs.declared.Size.TheVariants as Size
 use Rattle.area.specs.Area.{default_state, left_top, state_refusal}
 use Rattle.input.specs.declared.Event.TheVariants.{Key}
 use Rattle.input.specs.Event.{event_refusal}
@@ -55,7 +54,7 @@ pub data Situation : Type 0 where
   stacked : Calls → List ℕ → Situation
 
 abbrev pub area_at : Float → ℕ → Float → Float → ℕ → Float → AreaState
-area_at px fx w py fy h = record { pivot_pos = PivotPos.At px py; pivot = record { x = fx; y = fy }; size = Size.Of w h; interactable = true }
+area_at px fx w py fy h = record { pivot_pos = PivotPos.At px py; pivot = record { x = fx; y = fy }; size = Some (record { x = w; y = h }); interactable = true }
 
 abbrev pub is_at : Float → Float → Result Pos2 Refusal → Bool
 is_at x y (Ok p) = same p.x x && same p.y y
