@@ -3,7 +3,7 @@ use Rattle.std.specs.Prelude.{Option, None, Some}
 use mathlib.Core.Path.{◌≡◌, refl, sym, ap, ◌∙◌}
 use mathlib.Core.Bool.{Bool, true, false, cond}
 use mathlib.Core.List.{List, [], ◌++◌, append-nil}
-use Prim.Native.Nat.{ℕ, zero, suc, ◌+◌, ◌*◌, ◌<◌, ◌≤◌}
+use Prim.Native.Nat.{ℕ, ◌+◌, ◌*◌, ◌<◌, ◌≤◌}
 use native.Mathlib.Numerals.{add-one}
 use native.Mathlib.Omega.{arith}
 use lib.Dec.{eqb}
@@ -11,19 +11,17 @@ use lib.Ieee.{Float}
 use lib.ListN.{length, get_or, take, drop, length-append, length-take}
 use lib.Seq.{take_all, length-take-le}
 use Rattle.std.specs.List.{list_any}
-use Rattle.refusal.specs.Refusal.{kept}
 use Rattle.emath.specs.declared.Rect.{Rect}
-use Rattle.input.specs.FocusDirection.{is_cardinal}
 use Rattle.tables.specs.Tables.{first_from, after}
 use Rattle.tables.proofs.Finding.{after_at}
 use Rattle.search.specs.declared.Candidate.{Candidate}
 use Rattle.search.specs.Search.{table_of, find_of}
 use Rattle.focus_rules.specs.declared.Nav.{Nav}
 use Rattle.focus_rules.specs.declared.FocusWidget.{FocusWidget}
-use Rattle.focus_rules.specs.Rules.{focused_widget, found_of, ended_of}
+use Rattle.focus_rules.specs.Rules.{focused_widget}
 use Rattle.focus_cache.specs.Cache.{Cache, cache_in, room_in, held_in, has_id, cache_on, put_in, rect_at}
 use Rattle.focus_cache.proofs.Entries.{held_length, held_at, part_table, on_held, on_none, on_lengths, held_on, put_more, rest_ids, any_has}
-use Rattle.used.specs.Used.{entries_in, repeated, used_refusal}
+use Rattle.used.specs.Used.{entries_in, repeated}
 use Rattle.used.proofs.Entries.{entries_ids}
 use Rattle.focus_end.specs.declared.Searched.{Searched}
 use Rattle.focus_end.specs.End.{rect_in, kept_with, updated, search_from, refreshed, found_in}

@@ -75,6 +75,7 @@ fn retain(ids: &mut [u64], rects: &mut [f32], count: usize, used: &[u64], corner
 }
 
 // The rectangle of an id.
+#[tactic(auto, using(crate::proofs::Calls::rect_there, crate::proofs::Calls::rect_absent))]
 fn rect_of(ids: &[u64], rects: &[f32], id: u64) -> Option<Rect>
     requires { 4 * length ids.now ≤ length rects.now }
     ensures { result ≡ rect_in (table_of ids.now rects.now) id }
