@@ -1,5 +1,5 @@
 -- The events or used entries of an array with a count are those of the part that is lent; a count past its end is too many. Assumes nothing.
-use mathlib.Core.Path.{◌≡◌, refl, ap, ◌∙◌}
+use mathlib.Core.Path.{◌≡◌, refl, ap}
 use mathlib.Core.List.{List, ◌∷◌}
 use mathlib.Core.Bool.{true}
 use Prim.Native.Nat.{ℕ, zero, suc, ◌+◌, ◌*◌, ◌/◌, ◌%◌, ◌≤◌, ◌<◌}
@@ -8,15 +8,13 @@ use lib.Dec.{eqb}
 use lib.ListN.{length, get_or, take}
 use lib.Seq.{get_or-take, length-take-le}
 use borrow.Author.Tests.{eq-eqb, lt-ltb, le-ltb}
-use Rattle.refusal.specs.Refusal.{bad_list, kept}
-use Rattle.focus_rules.specs.declared.Changed.{Changed}
+use Rattle.refusal.specs.Refusal.{bad_list}
 use Rattle.focus_pass.specs.Events.{missing, event_at, events_from, count_in, events_in}
 use Rattle.focus_pass.specs.Pass.{begin_refusal, begin_of}
 use Rattle.focus.specs.declared.Focus.{Focus}
 use Rattle.focus.specs.declared.Events.{Events}
 use Rattle.focus.specs.declared.Used.{Used}
-use Rattle.focus.specs.declared.Done.{Done}
-use Rattle.focus.specs.Focus.{held_of, events_of, used_of, begun_of, ended_with, ended_of, focus_with, cache_of}
+use Rattle.focus.specs.Focus.{events_of, used_of, begun_of, ended_with, ended_of}
 
 count_length : (words : List ℕ) (i n : ℕ) → length (events_from words i n) ≡ n
 unfolding events_from
@@ -45,23 +43,18 @@ module _ (words : List ℕ) (n : ℕ) where
       rw (whole, count) (from_lent 0 n (omega arith))
 
 module _ (f : Focus) (e : Events) where
-  pub too_many : 64 < e.count → record { focus = f; refusal = bad_list } ≡ begun_of f e
+  pub too_many : 64 < e.count → bad_list ≡ (begun_of f e).refusal
   unfolding begun_of begin_of begin_refusal
   too_many h = rw (count_length e.words 0 e.count, lt-ltb 64 e.count h)
 
-  pub begun : 4 * e.count ≤ length e.words → (r : Changed) → r ≡ begin_of f.nav (held_of f) (events_in (take (4 * e.count) e.words)) → (slot : ℕ) → slot ≡ kept r.refusal f.slot 0
-      → record { focus = focus_with r.nav (cache_of f) f.count slot; refusal = r.refusal } ≡ begun_of f e
-  unfolding begun_of
-  begun h r q slot k =
-      let s : r ≡ begin_of f.nav (held_of f) (events_of e) = q ∙ ap (begin_of f.nav (held_of f)) (lent e.words e.count h) in
-      let t = k ∙ ap (λ (c : Changed). kept c.refusal f.slot 0) s in
-      λ i. record { focus = focus_with (s i).nav (cache_of f) f.count (t i); refusal = (s i).refusal }
+pub lent_events : (e : Events) → length e.words ≡ 256 → e.count ≤ 64 → events_in (take (4 * e.count) e.words) ≡ events_of e
+lent_events e l h = lent e.words e.count (omega arith)
 
 module _ (f : Focus) (u : Used) where
-  pub too_many_used : 256 < u.count → record { focus = f; refusal = bad_list } ≡ ended_of f u
+  pub too_many_used : 256 < u.count → bad_list ≡ (ended_of f u).refusal
   unfolding ended_of
   too_many_used h = rw (lt-ltb 256 u.count h)
 
-  pub few_used : u.count ≤ 256 → (d : Done) → d ≡ ended_with f (used_of u) → d ≡ ended_of f u
+  pub few_used : u.count ≤ 256 → ended_with f (used_of u) ≡ ended_of f u
   unfolding ended_of
-  few_used h d e = rw (le-ltb 256 u.count h) e
+  few_used h = rw (le-ltb 256 u.count h)

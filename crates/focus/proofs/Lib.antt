@@ -1,3 +1,3 @@
 -- Laws that the proofs of the record share.
 pub mod Counted
-pub mod Packed
+pub mod Stays

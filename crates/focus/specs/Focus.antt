@@ -11,8 +11,7 @@ use Rattle.layers.specs.declared.LayerId.{LayerId}
 use Rattle.layers.specs.Layers.{layer_refusal}
 use Rattle.search.specs.declared.Candidate.{Candidate}
 use Rattle.focus_rules.specs.declared.Nav.{Nav}
-use Rattle.focus_rules.specs.declared.Changed.{Changed}
-use Rattle.focus_rules.specs.Rules.{new_nav, changed_to, with_modals, focus_on, with_next, let_go, filtered_of, with_direction}
+use Rattle.focus_rules.specs.Rules.{Changed, new_nav, changed_to, with_modals, focus_on, with_next, let_go, filtered_of, with_direction}
 use Rattle.focus_cache.specs.Cache.{Cache, cache_in, cache_on, room_in, held_in, enlisted, without}
 use Rattle.focus_pass.specs.Events.{events_from}
 use Rattle.focus_pass.specs.Pass.{begin_of, interest_of, ignore_of}
@@ -21,7 +20,6 @@ use Rattle.focus_end.specs.End.{end_of, cache_ended}
 use Rattle.focus.specs.declared.Focus.{Focus}
 use Rattle.focus.specs.declared.Events.{Events}
 use Rattle.focus.specs.declared.Used.{Used}
-use Rattle.focus.specs.declared.Done.{Done}
 
 unfoldable pub new_focus : Focus
 new_focus = record { nav = new_nav; ids = replicate cached 0; rects = replicate (4 * cached) (of_bits binary32 0); count = 0; slot = 0 }
@@ -42,6 +40,11 @@ used_of u = entries_in (take u.count u.ids) u.corners
 -- ---- the record anew
 abbrev pub focus_with : Nav → Cache → ℕ → ℕ → Focus
 focus_with nav c count slot = record { nav = nav; ids = c.ids; rects = c.rects; count = count; slot = slot }
+
+-- what a call comes to: the record after it, and by what number it is refused, 0 for none
+pub record Done : Type 0 where
+  pub focus : Focus
+  pub refusal : ℕ
 
 abbrev pub with_nav : Focus → Changed → Done
 with_nav f r = record { focus = focus_with r.nav (cache_of f) f.count f.slot; refusal = r.refusal }

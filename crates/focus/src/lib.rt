@@ -1,19 +1,17 @@
 // `Focus` of memory/mod.rs as a record by value over the core in place (crates `focus_calls`, `focus_pass`, `focus_end`), and thin forms of begin, interest and end that borrow it to write it.
 #![tactic(auto)]
 
-ghost use Rattle.std.specs.Prelude.{◌≡◌, eqb};
-ghost use Rattle.refusal.specs.Refusal.{id_refusal, kept};
-ghost use Rattle.layer_queries.specs.Queries.{flag_answer};
+ghost use Rattle.std.specs.Prelude.{◌≡◌, eqb, IfOk};
+ghost use Rattle.refusal.specs.Refusal.{number_in, answer, id_refusal};
 ghost use Rattle.focus_rules.specs.Rules.{id_or_nothing, layer_or_nothing};
-ghost use Rattle.focus.specs.Focus.{new_focus, with_nav, begun_of, interested_of, ended_of, ignored_of, modal_set, requested, requested_next, surrendered, filter_set, moved};
+ghost use Rattle.focus.specs.Focus.{new_focus, begun_of, interested_of, ended_of, ignored_of, modal_set, requested, requested_next, surrendered, filter_set, moved};
 
-use focus_rules::{Changed, Nav};
+use focus_rules::Nav;
 use input::EventFilter;
-use layer_queries::{FlagAnswer, LayerAnswer};
 use layers::LayerId;
-use refusal::{BAD_LIST, CACHED, EVENTS, NONE, USED};
+use refusal::{CACHED, EVENTS, Refusal, USED};
 
-// The fields, the entries of the cache and how many they are, and the place where an interest call looks first.
+// The fields, the entries of the cache and how many they are, and the place where an interest call looks first. There is no heap: arrays with a count, which C holds as one record.
 #[derive(Clone, Copy)]
 #[repr(C)]
 pub struct Focus {
@@ -24,7 +22,7 @@ pub struct Focus {
     pub slot: usize,
 }
 
-// The events that begin a pass: how many they are, and four numbers for each, as `focus_pass` has them.
+// The events that begin a pass: how many they are, and four numbers for each, as `focus_pass` has them. C passes the record by one pointer, so it is an array with a count.
 #[derive(Clone, Copy)]
 #[repr(C)]
 pub struct Events {
@@ -32,7 +30,7 @@ pub struct Events {
     pub count: usize,
 }
 
-// The used entries that end a pass: how many they are, their ids, and four corners for each.
+// The used entries that end a pass, likewise: how many they are, their ids, and four corners for each.
 #[derive(Clone, Copy)]
 #[repr(C)]
 pub struct Used {
@@ -41,69 +39,42 @@ pub struct Used {
     pub count: usize,
 }
 
-// The record after a call, and its refusal.
-#[derive(Clone, Copy)]
-#[repr(C)]
-pub struct Done {
-    pub focus: Focus,
-    pub refusal: u64,
-}
-
 // ---- begin, interest and end by value
 
-// A begin that is taken starts over.
-#[tactic(auto, using(crate::proofs::Packed::not_zero))]
-fn slot_after(refusal: u64, slot: usize) -> usize
-    ensures { result ≡ kept refusal slot 0 }
-{
-    if refusal == NONE { 0 } else { slot }
-}
-
-pub fn begun(f: Focus, e: Events) -> Done
-    ensures { result ≡ begun_of f e }
+#[tactic(auto, unfolding(crate::specs::Focus::begun_of), using(crate::proofs::Counted::too_many, crate::proofs::Counted::lent_events))]
+pub fn begun(mut f: Focus, e: Events) -> Result<Focus, Refusal>
+    ensures refusal { number_in result ≡ (begun_of f e).refusal }
+    ensures focus { IfOk result (λ g. g ≡ (begun_of f e).focus) }
 {
     if EVENTS < e.count {
-        return Done {
-            focus: f,
-            refusal: BAD_LIST,
-        };
+        return Err(Refusal::BadList);
     }
-    let r = focus_pass::begin_pass(f.nav, &f.ids, &f.rects, f.count, &e.words[..4 * e.count]);
-    let focus = Focus {
-        nav: r.nav,
-        slot: slot_after(r.refusal, f.slot),
-        ..f
-    };
-    Done {
-        focus,
-        refusal: r.refusal,
-    }
+    f.nav = focus_pass::begin_pass(f.nav, &f.ids, &f.rects, f.count, &e.words[..4 * e.count])?;
+    f.slot = 0;
+    Ok(f)
 }
 
-pub fn interested(mut f: Focus, id: u64) -> Done
-    ensures { result ≡ interested_of f id }
+#[tactic(auto, unfolding(crate::specs::Focus::interested_of))]
+pub fn interested(mut f: Focus, id: u64) -> Result<Focus, Refusal>
+    ensures refusal { number_in result ≡ (interested_of f id).refusal }
+    ensures focus { IfOk result (λ g. g ≡ (interested_of f id).focus) }
 {
-    let r = focus_pass::interested_in_focus(f.nav, &mut f.ids, &mut f.rects, f.count, f.slot, id);
-    let focus = Focus {
+    let r = focus_pass::interested_in_focus(f.nav, &mut f.ids, &mut f.rects, f.count, f.slot, id)?;
+    Ok(Focus {
         nav: r.nav,
         count: r.count,
         slot: r.slot,
         ..f
-    };
-    Done {
-        focus,
-        refusal: r.refusal,
-    }
+    })
 }
 
-pub fn ended(mut f: Focus, u: Used) -> Done
-    ensures { result ≡ ended_of f u }
+#[tactic(auto, using(crate::proofs::Counted::too_many_used, crate::proofs::Counted::few_used))]
+pub fn ended(mut f: Focus, u: Used) -> Result<Focus, Refusal>
+    ensures refusal { number_in result ≡ (ended_of f u).refusal }
+    ensures focus { IfOk result (λ g. g ≡ (ended_of f u).focus) }
 {
     if USED < u.count {
-        return Done {
-            focus: f,
-            refusal: BAD_LIST,
-        };
+        return Err(Refusal::BadList);
     }
     let r = focus_end::end_pass(
         f.nav,
@@ -113,42 +84,38 @@ pub fn ended(mut f: Focus, u: Used) -> Done
         &u.ids[..u.count],
         &u.corners,
         USED,
-    );
-    let focus = Focus {
+    )?;
+    Ok(Focus {
         nav: r.nav,
         count: r.count,
         ..f
-    };
-    Done {
-        focus,
-        refusal: r.refusal,
-    }
+    })
 }
 
 // ---- their thin forms
 
-pub fn focus_begin_pass(f: &mut Focus, e: Events) -> u64
-    ensures { (f.new ≡ (begun_of f.old e).focus) × (result ≡ (begun_of f.old e).refusal) }
+pub fn focus_begin_pass(f: &mut Focus, e: Events) -> Result<(), Refusal>
+    ensures refusal { number_in result ≡ (begun_of f.old e).refusal }
+    ensures focus { f.new ≡ (begun_of f.old e).focus }
 {
-    let r = begun(*f, e);
-    *f = r.focus;
-    r.refusal
+    *f = begun(*f, e)?;
+    Ok(())
 }
 
-pub fn focus_interested_in_focus(f: &mut Focus, id: u64) -> u64
-    ensures { (f.new ≡ (interested_of f.old id).focus) × (result ≡ (interested_of f.old id).refusal) }
+pub fn focus_interested_in_focus(f: &mut Focus, id: u64) -> Result<(), Refusal>
+    ensures refusal { number_in result ≡ (interested_of f.old id).refusal }
+    ensures focus { f.new ≡ (interested_of f.old id).focus }
 {
-    let r = interested(*f, id);
-    *f = r.focus;
-    r.refusal
+    *f = interested(*f, id)?;
+    Ok(())
 }
 
-pub fn focus_end_pass(f: &mut Focus, u: Used) -> u64
-    ensures { (f.new ≡ (ended_of f.old u).focus) × (result ≡ (ended_of f.old u).refusal) }
+pub fn focus_end_pass(f: &mut Focus, u: Used) -> Result<(), Refusal>
+    ensures refusal { number_in result ≡ (ended_of f.old u).refusal }
+    ensures focus { f.new ≡ (ended_of f.old u).focus }
 {
-    let r = ended(*f, u);
-    *f = r.focus;
-    r.refusal
+    *f = ended(*f, u)?;
+    Ok(())
 }
 
 // ---- the other methods
@@ -167,16 +134,6 @@ impl Focus {
         }
     }
 
-    // The record with the fields that a call left.
-    fn with(self, r: Changed) -> Done
-        ensures { result ≡ with_nav self r }
-    {
-        Done {
-            focus: Focus { nav: r.nav, ..self },
-            refusal: r.refusal,
-        }
-    }
-
     pub fn focused(self) -> Option<u64>
         ensures { result ≡ id_or_nothing self.nav.focused }
     {
@@ -189,72 +146,82 @@ impl Focus {
         self.nav.focus_direction
     }
 
-    pub fn had_focus_last_frame(self, id: u64) -> FlagAnswer
-        ensures { result ≡ flag_answer (id_refusal id) (eqb self.nav.id_previous_frame id) }
+    pub fn had_focus_last_frame(self, id: u64) -> Result<bool, Refusal>
+        ensures { result ≡ answer (id_refusal id) (eqb self.nav.id_previous_frame id) }
     {
         focus_calls::had_focus_last_frame(self.nav, id)
     }
 
-    pub fn top_modal_layer(self) -> LayerAnswer
+    pub fn top_modal_layer(self) -> Option<LayerId>
         ensures { result ≡ layer_or_nothing self.nav.top_modal_layer }
     {
         focus_calls::top_modal_layer(self.nav)
     }
 
     #[tactic(auto, unfolding(crate::specs::Focus::modal_set))]
-    pub fn set_modal_layer(self, layer: LayerId) -> Done
-        ensures { result ≡ modal_set self layer }
+    pub fn set_modal_layer(self, layer: LayerId) -> Result<Focus, Refusal>
+        ensures refusal { number_in result ≡ (modal_set self layer).refusal }
+        ensures focus { IfOk result (λ f. f ≡ (modal_set self layer).focus) }
     {
-        self.with(focus_calls::set_modal_layer(self.nav, layer))
+        let nav = focus_calls::set_modal_layer(self.nav, layer)?;
+        Ok(Focus { nav, ..self })
     }
 
     #[tactic(auto, unfolding(crate::specs::Focus::requested))]
-    pub fn request_focus(self, id: u64) -> Done
-        ensures { result ≡ requested self id }
+    pub fn request_focus(self, id: u64) -> Result<Focus, Refusal>
+        ensures refusal { number_in result ≡ (requested self id).refusal }
+        ensures focus { IfOk result (λ f. f ≡ (requested self id).focus) }
     {
-        self.with(focus_calls::request_focus(self.nav, id))
+        let nav = focus_calls::request_focus(self.nav, id)?;
+        Ok(Focus { nav, ..self })
     }
 
     #[tactic(auto, unfolding(crate::specs::Focus::requested_next))]
-    pub fn request_focus_next_frame(self, id: u64) -> Done
-        ensures { result ≡ requested_next self id }
+    pub fn request_focus_next_frame(self, id: u64) -> Result<Focus, Refusal>
+        ensures refusal { number_in result ≡ (requested_next self id).refusal }
+        ensures focus { IfOk result (λ f. f ≡ (requested_next self id).focus) }
     {
-        self.with(focus_calls::request_focus_next_frame(self.nav, id))
+        let nav = focus_calls::request_focus_next_frame(self.nav, id)?;
+        Ok(Focus { nav, ..self })
     }
 
     #[tactic(auto, unfolding(crate::specs::Focus::surrendered))]
-    pub fn surrender_focus(self, id: u64) -> Done
-        ensures { result ≡ surrendered self id }
+    pub fn surrender_focus(self, id: u64) -> Result<Focus, Refusal>
+        ensures refusal { number_in result ≡ (surrendered self id).refusal }
+        ensures focus { IfOk result (λ f. f ≡ (surrendered self id).focus) }
     {
-        self.with(focus_calls::surrender_focus(self.nav, id))
+        let nav = focus_calls::surrender_focus(self.nav, id)?;
+        Ok(Focus { nav, ..self })
     }
 
     #[tactic(auto, unfolding(crate::specs::Focus::filter_set))]
-    pub fn set_focus_lock_filter(self, id: u64, filter: EventFilter) -> Done
-        ensures { result ≡ filter_set self id filter }
+    pub fn set_focus_lock_filter(self, id: u64, filter: EventFilter) -> Result<Focus, Refusal>
+        ensures refusal { number_in result ≡ (filter_set self id filter).refusal }
+        ensures focus { IfOk result (λ f. f ≡ (filter_set self id filter).focus) }
     {
-        self.with(focus_calls::set_focus_lock_filter(self.nav, id, filter))
+        let nav = focus_calls::set_focus_lock_filter(self.nav, id, filter)?;
+        Ok(Focus { nav, ..self })
     }
 
     #[tactic(auto, unfolding(crate::specs::Focus::moved))]
-    pub fn move_focus(self, direction: u64) -> Done
-        ensures { result ≡ moved self direction }
+    pub fn move_focus(self, direction: u64) -> Result<Focus, Refusal>
+        ensures refusal { number_in result ≡ (moved self direction).refusal }
+        ensures focus { IfOk result (λ f. f ≡ (moved self direction).focus) }
     {
-        self.with(focus_calls::move_focus(self.nav, direction))
+        let nav = focus_calls::move_focus(self.nav, direction)?;
+        Ok(Focus { nav, ..self })
     }
 
-    pub fn ignore_focus(mut self, id: u64) -> Done
-        ensures { result ≡ ignored_of self id }
+    #[tactic(auto, unfolding(crate::specs::Focus::ignored_of))]
+    pub fn ignore_focus(mut self, id: u64) -> Result<Focus, Refusal>
+        ensures refusal { number_in result ≡ (ignored_of self id).refusal }
+        ensures focus { IfOk result (λ f. f ≡ (ignored_of self id).focus) }
     {
-        let r = focus_pass::ignore_focus(self.nav, &mut self.ids, &mut self.rects, self.count, id);
-        let focus = Focus {
+        let r = focus_pass::ignore_focus(self.nav, &mut self.ids, &mut self.rects, self.count, id)?;
+        Ok(Focus {
             nav: r.nav,
             count: r.count,
             ..self
-        };
-        Done {
-            focus,
-            refusal: r.refusal,
-        }
+        })
     }
 }

@@ -1,6 +1,6 @@
 -- Each return of the calls, and each turn of `remove`. Assumes nothing.
 use mathlib.Core.Path.{◌≡◌, refl, sym, ap, ◌∙◌}
-use mathlib.Core.Bool.{false}
+use mathlib.Core.Bool.{Bool, false}
 use mathlib.Core.List.{List, [], ◌∷◌, ◌++◌}
 use Prim.Native.Nat.{ℕ, ◌+◌, min, ◌<◌, ◌≤◌}
 use native.Mathlib.Numerals.{add-one}
@@ -12,6 +12,7 @@ use Rattle.std.specs.List.{list_any}
 use lib.Dec.{eqb}
 use lib.Seq.{take_all, length-take-le}
 use borrow.Author.Tests.{lt-ltb, le-ltb}
+use Rattle.refusal.specs.Refusal.{kept}
 use Rattle.emath.specs.declared.Rect.{Rect}
 use Rattle.emath.specs.Rect.{everything}
 use Rattle.tables.specs.Tables.{after}
@@ -38,8 +39,8 @@ module _ (count : ℕ) (ids : List ℕ) (rects : List Float) where
     pub part_ids : take n ids ≡ ids_of (held_in count ids rects)
     part_ids = rw (e, held_length count ids rects) (sym (held_ids count ids rects))
 
-    pub contains_part : (id : ℕ) → list_any (λ x. eqb x id) (take n ids) ≡ has_id (held_in count ids rects) id
-    contains_part id = rw part_ids (any_has held id)
+    pub contains_part : (id : ℕ) (t : Bool) → t ≡ list_any (λ x. eqb x id) (take n ids) → t ≡ has_id (held_in count ids rects) id
+    contains_part id t p = p ∙ rw part_ids (any_has held id)
 
 -- ---- the id has an entry, old or new, or is refused
 module _ (count : ℕ) (ids : List ℕ) (rects : List Float) (slot id : ℕ) where
@@ -47,10 +48,13 @@ module _ (count : ℕ) (ids : List ℕ) (rects : List Float) (slot id : ℕ) whe
   entries = held_in count ids rects
 
   abbrev answer : Enlisted
-  answer = enlisted_of (room_in ids rects) (held_in count ids rects) count slot id
+  answer = enlisted_of (held_in count ids rects) slot id
+
+  abbrev refused : ℕ
+  refused = full_refusal (room_in ids rects) (held_in count ids rects) id
 
   abbrev after_it : Cache
-  after_it = cache_on (cache_in ids rects) (enlisted (held_in count ids rects) id)
+  after_it = kept (full_refusal (room_in ids rects) (held_in count ids rects) id) (cache_in ids rects) (cache_on (cache_in ids rects) (enlisted (held_in count ids rects) id))
 
   module _ (n : ℕ) (e : n ≡ length (held_in count ids rects)) (f : Option ℕ) (p : f ≡ after (take n ids) slot id) where
     sought : after (ids_of entries) slot id ≡ f
@@ -59,15 +63,20 @@ module _ (count : ℕ) (ids : List ℕ) (rects : List Float) (slot id : ℕ) whe
     pub slot_fits : (k : ℕ) → f ≡ Some k → k < length ids
     slot_fits k q = omega (arith, held_fits count ids rects n e, (after_has entries id slot k (sought ∙ q)).0)
 
-    pub old_answer : (k : ℕ) → f ≡ Some k → record { refusal = 0; count = n; slot = k + 1 } ≡ answer
-    unfolding enlisted_of full_refusal enlisted slot_after
-    old_answer k q =
-        let b = held_length count ids rects in
-        rw ((after_has entries id slot k (sought ∙ q)).1, le-ltb (room_in ids rects) (length entries) (omega arith), sought, q, ← e, add-one)
+    module _ (k : ℕ) (q : f ≡ Some k) where
+      pub old_taken : 0 ≡ refused
+      unfolding full_refusal enlisted
+      old_taken =
+          let b = held_length count ids rects in
+          rw ((after_has entries id slot k (sought ∙ q)).1, le-ltb (room_in ids rects) (length entries) (omega arith))
 
-    pub old_cache : (k : ℕ) → f ≡ Some k → cache_in ids rects ≡ after_it
-    unfolding enlisted
-    old_cache k q = rw (after_has entries id slot k (sought ∙ q)).1 (sym (on_held count ids rects))
+      pub old_answer : record { count = n; slot = k + 1 } ≡ answer
+      unfolding enlisted_of enlisted slot_after
+      old_answer = rw ((after_has entries id slot k (sought ∙ q)).1, sought, q, ← e, add-one)
+
+      pub old_cache : cache_in ids rects ≡ after_it
+      unfolding enlisted
+      old_cache = rw (← old_taken, (after_has entries id slot k (sought ∙ q)).1) (sym (on_held count ids rects))
 
     module _ (q : f ≡ None) (room : ℕ) (r : room ≡ room_in ids rects) where
       abbrev new : Candidate
@@ -79,17 +88,26 @@ module _ (count : ℕ) (ids : List ℕ) (rects : List Float) (slot id : ℕ) whe
       one_longer : length (entries ++ (new ∷ [])) ≡ n + 1
       one_longer = simp length-append (omega arith)
 
-      pub new_answer : n < room → record { refusal = 0; count = n + 1; slot = n + 1 } ≡ answer
-      unfolding enlisted_of full_refusal enlisted slot_after
-      new_answer h = rw (not_held, one_longer, le-ltb (room_in ids rects) (n + 1) (omega arith), sought, q, ← e, add-one)
+      module _ (h : n < room) where
+        pub new_taken : 0 ≡ refused
+        unfolding full_refusal enlisted
+        new_taken = rw (not_held, one_longer, le-ltb (room_in ids rects) (n + 1) (omega arith))
 
-      pub new_cache : (now : Cache) (rect : Rect) → n < room → rect ≡ everything → now ≡ put_in (cache_in ids rects) n (record { id = id; rect = rect }) → now ≡ after_it
-      unfolding enlisted
-      new_cache now rect h a m = rw (not_held, m, a) (rw (on_held count ids rects) at (put_more (cache_in ids rects) entries n new e (omega arith)))
+        pub new_answer : record { count = n + 1; slot = n + 1 } ≡ answer
+        unfolding enlisted_of enlisted slot_after
+        new_answer = rw (not_held, one_longer, sought, q, ← e, add-one)
 
-      pub full_answer : room ≤ n → record { refusal = 6; count = count; slot = slot } ≡ answer
-      unfolding enlisted_of full_refusal enlisted
-      full_answer h = rw (not_held, one_longer, lt-ltb (room_in ids rects) (n + 1) (omega arith))
+        pub new_cache : (now : Cache) (rect : Rect) → rect ≡ everything → now ≡ put_in (cache_in ids rects) n (record { id = id; rect = rect }) → now ≡ after_it
+        unfolding enlisted
+        new_cache now rect a m = rw (← new_taken, not_held, m, a) (rw (on_held count ids rects) at (put_more (cache_in ids rects) entries n new e (omega arith)))
+
+      module _ (h : room ≤ n) where
+        pub full_told : 6 ≡ refused
+        unfolding full_refusal enlisted
+        full_told = rw (not_held, one_longer, lt-ltb (room_in ids rects) (n + 1) (omega arith))
+
+        pub full_cache : cache_in ids rects ≡ after_it
+        full_cache = rw (← full_told)
 
 -- ---- the entries of an id taken out: of the first i those that are left, n of them, stand on the first places
 pub record Removed (was : Cache) (held : List Candidate) (id : ℕ) (now : Cache) (n i : ℕ) : Type 0 where

@@ -2,7 +2,7 @@
 -- exact value of each number of the tables that hold it. A reader needs only the list. Definitions only.
 use Rattle.std.specs.Prelude.{ℕ, suc, ◌+◌, ◌*◌, ◌/◌, min, Bool, false, cond, ◌||◌, Option, None, Some, List, [], ◌∷◌, ◌++◌, map, eqb, ltb, Float, length, get_or, take, set}
 use Rattle.std.specs.Float.{nan}
-use Rattle.refusal.specs.Refusal.{none, full, kept}
+use Rattle.refusal.specs.Refusal.{none, full}
 use Rattle.emath.specs.declared.Rect.{Rect}
 use Rattle.emath.specs.Rect.{everything}
 use Rattle.tables.specs.Tables.{after, put_at, written_on}
@@ -68,7 +68,5 @@ unfoldable pub slot_after : List Candidate → ℕ → ℕ → ℕ
 slot_after held slot id = place_after (after (ids_of held) slot id) (length held)
 
 -- ---- the answer
-unfoldable pub enlisted_of : ℕ → List Candidate → ℕ → ℕ → ℕ → Enlisted
-enlisted_of room held count slot id =
-    let refusal = full_refusal room held id in
-    record { refusal = refusal; count = kept refusal count (length (enlisted held id)); slot = kept refusal slot (slot_after held slot id) }
+unfoldable pub enlisted_of : List Candidate → ℕ → ℕ → Enlisted
+enlisted_of held slot id = record { count = length (enlisted held id); slot = slot_after held slot id }

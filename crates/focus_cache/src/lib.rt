@@ -1,20 +1,19 @@
 // `focus_widgets_cache` of `Focus` (memory/mod.rs), a map from ids to rectangles, in place on lent tables of any length: an entry for each id, in the order in
-// which they came. How many are held goes along by value.
+// which they came. How many are held goes along by value. The calls change the tables, so they get the slices as C lends them.
 //     ids:   the id
 //     rects: four numbers: left, top, right, bottom
 #![tactic(auto)]
 
-ghost use Rattle.std.specs.Prelude.{◌≡◌, length};
-ghost use Rattle.refusal.specs.Refusal.{kept};
-ghost use Rattle.focus_cache.specs.Cache.{room_in, held_in, has_id, without, enlisted, cache_in, cache_on, rect_at, put_in, enlisted_of};
+ghost use Rattle.std.specs.Prelude.{◌≡◌, length, IfOk};
+ghost use Rattle.refusal.specs.Refusal.{number_in, kept};
+ghost use Rattle.focus_cache.specs.Cache.{room_in, held_in, has_id, without, enlisted, cache_in, cache_on, rect_at, put_in, full_refusal, enlisted_of};
 
 use emath::{Pos2, Rect};
-use refusal::{FULL, NONE};
+use refusal::Refusal;
 
-// A refusal, how many entries are held, and the place where the next call looks first.
+// How many entries are held, and the place where the next call looks first.
 #[derive(Clone, Copy)]
 pub struct Enlisted {
-    pub refusal: u64,
     pub count: usize,
     pub slot: usize,
 }
@@ -27,6 +26,7 @@ pub fn room(ids: &[u64], rects: &[f32]) -> usize
 }
 
 // How many are held: never more than there is room for.
+#[tactic(auto, using(crate::proofs::Calls::held_is))]
 pub fn held(ids: &[u64], rects: &[f32], count: usize) -> usize
     ensures { result ≡ length (held_in count ids.now rects.now) }
 {
@@ -34,7 +34,7 @@ pub fn held(ids: &[u64], rects: &[f32], count: usize) -> usize
 }
 
 // Whether the cache holds an id.
-#[tactic(auto, using(crate::proofs::Calls::held_fits, crate::proofs::Calls::held_part))]
+#[tactic(auto, using(crate::proofs::Calls::held_fits, crate::proofs::Calls::held_part, crate::proofs::Calls::contains_part))]
 pub fn contains(ids: &[u64], rects: &[f32], count: usize, id: u64) -> bool
     ensures { result ≡ has_id (held_in count ids.now rects.now) id }
 {
@@ -55,29 +55,32 @@ pub fn put(ids: &mut [u64], rects: &mut [f32], k: usize, id: u64, rect: Rect)
 }
 
 // The id has an entry: the one that it had, looked for first at `slot`, or a new one with the rectangle that is everything.
-pub fn enlist(ids: &mut [u64], rects: &mut [f32], count: usize, slot: usize, id: u64) -> Enlisted
-    ensures { (result ≡ enlisted_of (room_in ids.old rects.old) (held_in count ids.old rects.old) count slot id) × (cache_in ids.new rects.new ≡ kept result.refusal (cache_in ids.old rects.old) (cache_on (cache_in ids.old rects.old) (enlisted (held_in count ids.old rects.old) id))) }
+#[tactic(auto, using(crate::proofs::Calls::held_fits, crate::proofs::Calls::held_part, crate::proofs::Calls::slot_fits, crate::proofs::Calls::old_taken, crate::proofs::Calls::old_answer, crate::proofs::Calls::old_cache, crate::proofs::Calls::new_taken, crate::proofs::Calls::new_answer, crate::proofs::Calls::new_cache, crate::proofs::Calls::full_told, crate::proofs::Calls::full_cache))]
+pub fn enlist(
+    ids: &mut [u64],
+    rects: &mut [f32],
+    count: usize,
+    slot: usize,
+    id: u64,
+) -> Result<Enlisted, Refusal>
+    ensures refusal { number_in result ≡ full_refusal (room_in ids.old rects.old) (held_in count ids.old rects.old) id }
+    ensures place { IfOk result (λ e. e ≡ enlisted_of (held_in count ids.old rects.old) slot id) }
+    ensures cache { cache_in ids.new rects.new ≡ kept (full_refusal (room_in ids.old rects.old) (held_in count ids.old rects.old) id) (cache_in ids.old rects.old) (cache_on (cache_in ids.old rects.old) (enlisted (held_in count ids.old rects.old) id)) }
 {
     let n = held(ids, rects, count);
     match tables::find_after(&ids[..n], slot, id) {
-        Some(k) => Enlisted {
-            refusal: NONE,
+        Some(k) => Ok(Enlisted {
             count: n,
             slot: k + 1,
-        },
+        }),
         None if n < room(ids, rects) => {
             put(ids, rects, n, id, Rect::everything());
-            Enlisted {
-                refusal: NONE,
+            Ok(Enlisted {
                 count: n + 1,
                 slot: n + 1,
-            }
+            })
         }
-        None => Enlisted {
-            refusal: FULL,
-            count,
-            slot,
-        },
+        None => Err(Refusal::Full),
     }
 }
 

@@ -3,7 +3,7 @@ use Rattle.std.specs.Prelude.{Option, None, Some}
 use mathlib.Core.Path.{◌≡◌, refl, sym, ap, ◌∙◌}
 use mathlib.Core.Bool.{Bool, true, false, cond}
 use mathlib.Core.List.{List, [], ◌++◌, append-nil}
-use Prim.Native.Nat.{ℕ, zero, suc, ◌+◌, ◌*◌, ◌<◌, ◌≤◌}
+use Prim.Native.Nat.{ℕ, ◌+◌, ◌*◌, ◌<◌, ◌≤◌}
 use native.Mathlib.Numerals.{add-one}
 use native.Mathlib.Omega.{arith}
 use lib.Dec.{eqb}
@@ -11,23 +11,20 @@ use lib.Ieee.{Float}
 use lib.ListN.{length, get_or, take, drop, length-append, length-take}
 use lib.Seq.{take_all, length-take-le}
 use Rattle.std.specs.List.{list_any}
-use Rattle.refusal.specs.Refusal.{kept}
 use Rattle.emath.specs.declared.Rect.{Rect}
-use Rattle.input.specs.FocusDirection.{is_cardinal}
 use Rattle.tables.specs.Tables.{first_from, after}
 use Rattle.tables.proofs.Finding.{after_at}
 use Rattle.search.specs.declared.Candidate.{Candidate}
 use Rattle.search.specs.Search.{table_of, find_of}
 use Rattle.focus_rules.specs.declared.Nav.{Nav}
 use Rattle.focus_rules.specs.declared.FocusWidget.{FocusWidget}
-use Rattle.focus_rules.specs.Rules.{focused_widget, found_of, ended_of}
+use Rattle.focus_rules.specs.Rules.{focused_widget}
 use Rattle.focus_cache.specs.Cache.{Cache, cache_in, room_in, held_in, has_id, cache_on, put_in, rect_at}
 use Rattle.focus_cache.proofs.Entries.{held_length, held_at, part_table, on_held, on_none, on_lengths, held_on, put_more, rest_ids, any_has}
-use Rattle.used.specs.Used.{entries_in, repeated, used_refusal}
+use Rattle.used.specs.Used.{entries_in, repeated}
 use Rattle.used.proofs.Entries.{entries_ids}
-use Rattle.focus_end.specs.declared.Ended.{Ended}
 use Rattle.focus_end.specs.declared.Searched.{Searched}
-use Rattle.focus_end.specs.End.{rect_in, kept_with, updated, search_from, refreshed, found_in, cache_ended, nav_ended, end_of}
+use Rattle.focus_end.specs.End.{rect_in, kept_with, updated, search_from, refreshed, found_in}
 use Rattle.focus_end.specs.Steps.{count_after, kept_in, searched_of}
 use Rattle.focus_end.proofs.Entries.{table_at, table_none, used_at, used_none, updated_length, updated_more}
 
@@ -170,29 +167,3 @@ module _ (count : ℕ) (ids : List ℕ) (rects : List Float) (used : List Candid
 
         pub finds : (current : Rect) (found : ℕ) → r ≡ Some current → found ≡ find_of part f.id current nav.focus_direction → Searches nav found n now
         finds current found z y = searched found (y ∙ rw (z, part_fresh, (one_focused nav w q f h).1))
-
-  -- ---- the end: refused, with a search, or without
-  module _ (limit : ℕ) (nav : Nav) where
-    abbrev Ends : Ended → Cache → Type 0
-    Ends r now = (r ≡ end_of limit nav held count used) × (now ≡ kept r.refusal before (cache_on before (cache_ended nav held used)))
-
-    module _ (refusal : ℕ) (e : refusal ≡ used_refusal limit used) where
-      pub ends_refused : (refusal ≡ 0 → ⊥) → Ends (record { refusal = refusal; nav = nav; count = count }) before
-      unfolding end_of
-      ends_refused h = (rw (← e) (λ i. record { refusal = refusal; nav = as_was refusal h nav (nav_ended nav held used) i; count = as_was refusal h count (length (cache_ended nav held used)) i }), as_was refusal h before (cache_on before (cache_ended nav held used)))
-        where
-          as_was : {A : Type 0} → (n : ℕ) → (n ≡ 0 → ⊥) → (a b : A) → a ≡ kept n a b
-          as_was zero h a b = absurd (h refl)
-          as_was (suc n) h a b = refl
-
-      module _ (z : refusal ≡ 0) (arrow : Bool) (p : arrow ≡ is_cardinal nav.focus_direction) where
-        pub ends_searched : (s : Searched) (now : Cache) (next : Nav) (b : Bool) (out : Nav) → arrow ≡ true → s ≡ searched_of nav held used → now ≡ cache_on before (refreshed nav held used) → next ≡ found_of nav s.found → b ≡ has_id used next.focused → out ≡ ended_of next b → Ends (record { refusal = refusal; nav = out; count = s.count }) now
-        unfolding end_of cache_ended nav_ended
-        ends_searched s now next b out a q c f h o =
-            let m = f ∙ ap (λ (t : Searched). found_of nav t.found) q in
-            let n = o ∙ ap (ended_of next) h ∙ ap (λ (m : Nav). ended_of m (has_id used m.focused)) m in
-            rw (sym e ∙ z, z, sym p ∙ a) ((λ i. record { refusal = 0; nav = n i; count = (q i).count }), c)
-
-        pub ends_quietly : (b : Bool) (out : Nav) (n : ℕ) → arrow ≡ false → b ≡ has_id used nav.focused → out ≡ ended_of nav b → n ≡ length held → Ends (record { refusal = refusal; nav = out; count = n }) before
-        unfolding end_of cache_ended nav_ended
-        ends_quietly b out n a h o c = rw (sym e ∙ z, z, sym p ∙ a) ((λ i. record { refusal = 0; nav = (o ∙ ap (ended_of nav) h) i; count = c i }), sym (on_held count ids rects))

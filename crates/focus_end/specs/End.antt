@@ -10,7 +10,6 @@ use Rattle.focus_rules.specs.declared.Nav.{Nav}
 use Rattle.focus_rules.specs.Rules.{found_of, ended_of}
 use Rattle.focus_cache.specs.Cache.{has_id}
 use Rattle.used.specs.Used.{used_refusal}
-use Rattle.focus_end.specs.declared.Ended.{Ended}
 
 -- ---- the map's `get`
 unfoldable pub rect_in : List Candidate → ℕ → Option Rect
@@ -46,6 +45,12 @@ unfoldable pub nav_ended : Nav → List Candidate → List Candidate → Nav
 nav_ended nav held used =
     let next = cond (is_cardinal nav.focus_direction) (found_of nav (found_in nav held used)) nav in
     ended_of next (has_id used next.focused)
+
+-- what it comes to: by what number it is refused, 0 for none, the fields after it, and how many entries the cache holds
+pub record Ended : Type 0 where
+  pub refusal : ℕ
+  pub nav : Nav
+  pub count : ℕ
 
 unfoldable pub end_of : ℕ → Nav → List Candidate → ℕ → List Candidate → Ended
 end_of limit nav held count used =

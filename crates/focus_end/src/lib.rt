@@ -2,8 +2,8 @@
 // (crate `focus_cache`).
 #![tactic(auto)]
 
-ghost use Rattle.std.specs.Prelude.{◌≡◌, false, ◌*◌, ◌≤◌, ◌<◌, length, get_or};
-ghost use Rattle.refusal.specs.Refusal.{kept};
+ghost use Rattle.std.specs.Prelude.{◌≡◌, false, ◌*◌, ◌≤◌, ◌<◌, length, get_or, IfOk};
+ghost use Rattle.refusal.specs.Refusal.{number_in, kept};
 ghost use Rattle.search.specs.Search.{table_of};
 ghost use Rattle.focus_cache.specs.Cache.{held_in, has_id, cache_in, cache_on};
 ghost use Rattle.used.specs.Used.{entries_in, repeated};
@@ -12,13 +12,11 @@ ghost use Rattle.focus_end.specs.Steps.{count_after, kept_in, searched_of};
 
 use emath::Rect;
 use focus_rules::Nav;
-use refusal::NONE;
+use refusal::Refusal;
 
-// A call's refusal, the fields after it, and how many entries the cache holds.
+// The fields after the end of a pass, and how many entries the cache holds.
 #[derive(Clone, Copy)]
-#[repr(C)]
 pub struct Ended {
-    pub refusal: u64,
     pub nav: Nav,
     pub count: usize,
 }
@@ -30,7 +28,7 @@ struct Kept {
     next: usize,
 }
 
-// What the search found, 0 for nothing, and how many entries the cache holds.
+// What the search found, 0 for nothing as `search::find` answers, and how many entries the cache holds.
 #[derive(Clone, Copy)]
 struct Searched {
     found: u64,
@@ -77,6 +75,7 @@ fn retain(ids: &mut [u64], rects: &mut [f32], count: usize, used: &[u64], corner
 }
 
 // The rectangle of an id.
+#[tactic(auto, using(crate::proofs::Calls::rect_there, crate::proofs::Calls::rect_absent))]
 fn rect_of(ids: &[u64], rects: &[f32], id: u64) -> Option<Rect>
     requires { 4 * length ids.now ≤ length rects.now }
     ensures { result ≡ rect_in (table_of ids.now rects.now) id }
@@ -125,6 +124,7 @@ fn is_used(used: &[u64], corners: &[f32], id: u64) -> bool
     used.contains(&id)
 }
 
+#[tactic(auto, unfolding(crate::specs::End::end_of, crate::specs::End::cache_ended, crate::specs::End::nav_ended), using(used::proofs::Entries::taken_unrepeated, used::proofs::Entries::taken_whole, focus_cache::proofs::Entries::on_held))]
 pub fn end_pass(
     nav: Nav,
     ids: &mut [u64],
@@ -133,29 +133,20 @@ pub fn end_pass(
     used: &[u64],
     corners: &[f32],
     limit: usize,
-) -> Ended
-    ensures { (result ≡ end_of limit nav (held_in count ids.old rects.old) count (entries_in used.now corners.now)) × (cache_in ids.new rects.new ≡ kept result.refusal (cache_in ids.old rects.old) (cache_on (cache_in ids.old rects.old) (cache_ended nav (held_in count ids.old rects.old) (entries_in used.now corners.now)))) }
+) -> Result<Ended, Refusal>
+    ensures refusal { number_in result ≡ (end_of limit nav (held_in count ids.old rects.old) count (entries_in used.now corners.now)).refusal }
+    ensures after { IfOk result (λ r. let s = end_of limit nav (held_in count ids.old rects.old) count (entries_in used.now corners.now) in (r.nav ≡ s.nav) × (r.count ≡ s.count)) }
+    ensures cache { cache_in ids.new rects.new ≡ kept (end_of limit nav (held_in count ids.old rects.old) count (entries_in used.now corners.now)).refusal (cache_in ids.old rects.old) (cache_on (cache_in ids.old rects.old) (cache_ended nav (held_in count ids.old rects.old) (entries_in used.now corners.now))) }
 {
-    let refusal = used::refusal(used, corners, limit);
-    if refusal != NONE {
-        return Ended {
-            refusal,
-            nav,
-            count,
-        };
-    }
-    if input::is_cardinal(nav.focus_direction) {
+    used::check(used, corners, limit)?;
+    let (next, count) = if input::is_cardinal(nav.focus_direction) {
         let s = find_widget_in_direction(nav, ids, rects, count, used, corners);
-        let next = navigation::found(nav, s.found);
-        return Ended {
-            refusal,
-            nav: navigation::ended(next, is_used(used, corners, next.focused)),
-            count: s.count,
-        };
-    }
-    Ended {
-        refusal,
-        nav: navigation::ended(nav, is_used(used, corners, nav.focused)),
-        count: focus_cache::held(ids, rects, count),
-    }
+        (navigation::found(nav, s.found), s.count)
+    } else {
+        (nav, focus_cache::held(ids, rects, count))
+    };
+    Ok(Ended {
+        nav: navigation::ended(next, is_used(used, corners, next.focused)),
+        count,
+    })
 }

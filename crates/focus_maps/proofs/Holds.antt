@@ -6,8 +6,7 @@ use Rattle.refusal.specs.Refusal.{kept}
 use Rattle.refusal.specs.Limits.{cached}
 use Rattle.focus_cache.specs.Cache.{held_in}
 use Rattle.focus.specs.declared.Focus.{Focus}
-use Rattle.focus.specs.declared.Done.{Done}
-use Rattle.focus.specs.Focus.{new_focus}
+use Rattle.focus.specs.Focus.{Done, new_focus}
 use Rattle.focus_maps.specs.Egui as Egui
 use Rattle.focus_maps.specs.Calls.{Call, Calls, meaning_of, done_by, refusal_of, egui_call, egui_step, record_after, egui_after}
 use Rattle.focus_maps.proofs.Steps.{limit, accepted, done, accepted_means, accepted_room}

@@ -7,7 +7,7 @@ use Prim.Native.Nat.{ℕ}
 use native.Mathlib.Omega.{arith}
 use lib.Dec.{eqb}
 use borrow.Author.Tests.{eqb-true, eqb-false, ne_eqb}
-use Rattle.refusal.specs.Refusal.{zero_id, id_refusal, code_refusal}
+use Rattle.refusal.specs.Refusal.{zero_id, answer, id_refusal, code_refusal}
 use Rattle.refusal.specs.Refusal.{none as notRefused}
 use Rattle.refusal.specs.Limits.{last_order}
 use Rattle.refusal.proofs.Laws.{both_none}
@@ -16,14 +16,12 @@ use Rattle.input.specs.FocusDirection.{previous, next}
 use Rattle.layers.specs.declared.LayerId.{LayerId}
 use Rattle.layers.specs.Layers.{layer_refusal}
 use Rattle.search.specs.declared.Candidate.{Candidate}
-use Rattle.layer_queries.specs.declared.LayerAnswer.TheVariants as LayerAnswer
-use Rattle.layer_queries.specs.Queries.{flag_answer}
 use Rattle.focus_rules.specs.declared.Nav.{Nav}
 use Rattle.focus_rules.specs.declared.FocusWidget.{FocusWidget}
-use Rattle.focus_rules.specs.Rules.{id_or_nothing, layer_or_nothing, focused_widget, focus_on, with_focus, with_next, with_modals, is_idle, ruled, interested_of, let_go, filtered_of}
+use Rattle.focus_rules.specs.Rules.{id_or_nothing, focused_widget, focus_on, with_focus, with_next, with_modals, is_idle, ruled, interested_of, let_go, filtered_of}
 use Rattle.focus_cache.specs.Cache.{enlisted, without}
 use Rattle.focus_maps.specs.Egui as Egui
-use Rattle.focus_maps.specs.Calls.{option_of, layer_option, meaning, layer_answer_of}
+use Rattle.focus_maps.specs.Calls.{option_of, meaning}
 
 -- ---- what a refusal that is none says
 pub id_taken : (id : ℕ) → id_refusal id ≡ 0 → eqb id 0 ≡ false
@@ -126,16 +124,9 @@ module _ (n : Nav) where
   pub focused_answer : id_or_nothing n.focused ≡ Egui.id_of (focused_widget n)
   focused_answer = sym (focused_means n)
 
-  pub last_answer : (id : ℕ) → flag_answer (id_refusal id) (eqb n.id_previous_frame id) ≡ flag_answer (id_refusal id) (Egui.is (option_of n.id_previous_frame) id)
+  pub last_answer : (id : ℕ) → answer (id_refusal id) (eqb n.id_previous_frame id) ≡ answer (id_refusal id) (Egui.is (option_of n.id_previous_frame) id)
   last_answer id = go (eqb id 0) refl
     where
-      go : (b : Bool) → eqb id 0 ≡ b → flag_answer (cond b zero_id notRefused) (eqb n.id_previous_frame id) ≡ flag_answer (cond b zero_id notRefused) (Egui.is (option_of n.id_previous_frame) id)
+      go : (b : Bool) → eqb id 0 ≡ b → answer (cond b zero_id notRefused) (eqb n.id_previous_frame id) ≡ answer (cond b zero_id notRefused) (Egui.is (option_of n.id_previous_frame) id)
       go true e = refl
-      go false e = ap (flag_answer notRefused) (sym (is_means n.id_previous_frame id e))
-
-pub layer_answer_lem : (layer : LayerId) → layer_or_nothing layer ≡ layer_answer_of (layer_option layer)
-layer_answer_lem layer = go (eqb layer.id 0)
-  where
-    go : (b : Bool) → cond b LayerAnswer.Nothing (LayerAnswer.Is layer) ≡ layer_answer_of (cond b None (Some layer))
-    go true = refl
-    go false = refl
+      go false e = ap (answer notRefused) (sym (is_means n.id_previous_frame id e))

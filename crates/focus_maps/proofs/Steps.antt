@@ -23,8 +23,7 @@ use Rattle.used.specs.Used.{used_refusal}
 use Rattle.focus_end.specs.End.{cache_ended, nav_ended, end_of}
 use Rattle.focus.specs.declared.Focus.{Focus}
 use Rattle.focus.specs.declared.Used.{Used}
-use Rattle.focus.specs.declared.Done.{Done}
-use Rattle.focus.specs.Focus.{cache_of, held_of, events_of, used_of, focus_with, with_nav, begun_of, interested_of, ended_with, ended_of, ignored_of, modal_set, requested, requested_next, surrendered, filter_set, moved}
+use Rattle.focus.specs.Focus.{Done, cache_of, held_of, events_of, used_of, focus_with, with_nav, begun_of, interested_of, ended_with, ended_of, ignored_of, modal_set, requested, requested_next, surrendered, filter_set, moved}
 use Rattle.focus_maps.specs.Calls.{Call, Begin, Interest, End, SetModalLayer, RequestFocus, RequestFocusNextFrame, SurrenderFocus, IgnoreFocus, SetFocusLockFilter, MoveFocus, meaning_of, done_by, refusal_of, egui_call}
 use Rattle.focus_maps.proofs.Means.{id_taken, layer_taken, on_means, next_means, letgo_means, filter_means, interest_means, ignore_means, modal_means}
 use Rattle.focus_maps.proofs.Begun.{begin_means}

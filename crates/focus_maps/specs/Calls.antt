@@ -8,7 +8,6 @@ use Rattle.input.specs.declared.EventFilter.{EventFilter}
 use Rattle.layers.specs.declared.LayerId.{LayerId}
 use Rattle.layers.specs.Layers.{layer_refusal}
 use Rattle.search.specs.declared.Candidate.{Candidate}
-use Rattle.layer_queries.specs.declared.LayerAnswer.{LayerAnswer}
 use Rattle.focus_rules.specs.declared.Nav.{Nav}
 use Rattle.focus_rules.specs.Rules.{focused_widget}
 use Rattle.focus_cache.specs.Cache.{enlisted}
@@ -17,8 +16,7 @@ use Rattle.used.specs.Used.{used_refusal}
 use Rattle.focus.specs.declared.Focus.{Focus}
 use Rattle.focus.specs.declared.Events.{Events}
 use Rattle.focus.specs.declared.Used.{Used}
-use Rattle.focus.specs.declared.Done.{Done}
-use Rattle.focus.specs.Focus.{new_focus, held_of, events_of, used_of, begun_of, interested_of, ended_of, modal_set, requested, requested_next, surrendered, ignored_of, filter_set, moved}
+use Rattle.focus.specs.Focus.{Done, new_focus, held_of, events_of, used_of, begun_of, interested_of, ended_of, modal_set, requested, requested_next, surrendered, ignored_of, filter_set, moved}
 use Rattle.focus_maps.specs.Egui as Egui
 
 -- ---- what the record means: 0 is no id, and a layer of id 0 is none
@@ -33,11 +31,6 @@ meaning n cache = record { focused_widget = focused_widget n; id_previous_frame 
 
 abbrev pub meaning_of : Focus → Egui.Focus
 meaning_of f = meaning f.nav (held_of f)
-
--- how an answer of the port says an option
-abbrev pub layer_answer_of : Option LayerId → LayerAnswer
-layer_answer_of None = LayerAnswer.Nothing
-layer_answer_of (Some layer) = LayerAnswer.Is layer
 
 -- ---- a call, with the arguments that the code gets
 pub data Call : Type 0 where

@@ -3,14 +3,13 @@
 
 ghost use Rattle.std.specs.Prelude.{◌≡◌, false, ℕ, eqb};
 ghost use Rattle.refusal.specs.Limits.{cached};
-ghost use Rattle.refusal.specs.Refusal.{id_refusal};
-ghost use Rattle.layer_queries.specs.Queries.{flag_answer};
+ghost use Rattle.refusal.specs.Refusal.{answer, id_refusal};
 ghost use Rattle.focus_rules.specs.Rules.{id_or_nothing, layer_or_nothing};
 ghost use Rattle.used.specs.Used.{ids_of, repeated};
 ghost use Rattle.focus_maps.specs.Egui as Egui;
 ghost use Rattle.focus.specs.declared.Focus.{Focus};
 ghost use Rattle.focus_cache.specs.Cache.{room_in};
-ghost use Rattle.focus_maps.specs.Calls.{Call, Calls, meaning_of, done_by, refusal_of, egui_step, record_after, egui_after, layer_answer_of};
+ghost use Rattle.focus_maps.specs.Calls.{Call, Calls, meaning_of, done_by, refusal_of, egui_step, record_after, egui_after};
 
 // From every value of the record: what a call leaves means what egui's method leaves of what the record meant, or the same where document 01 refuses the call. There is nothing to run.
 pub fn call_means_egui()
@@ -37,6 +36,6 @@ pub fn cache_is_a_map()
 // From every value of the record, the queries answer what egui's functions give of what the record means, 1 for an id that is none. There is nothing to run.
 pub fn answers_as_egui()
     ensures { ((f : Focus) → id_or_nothing f.nav.focused ≡ Egui.focused (meaning_of f))
-        × ((f : Focus) (id : ℕ) → flag_answer (id_refusal id) (eqb f.nav.id_previous_frame id) ≡ flag_answer (id_refusal id) (Egui.had_focus_last_frame (meaning_of f) id))
-        × ((f : Focus) → layer_or_nothing f.nav.top_modal_layer ≡ layer_answer_of (meaning_of f).top_modal_layer) }
+        × ((f : Focus) (id : ℕ) → answer (id_refusal id) (eqb f.nav.id_previous_frame id) ≡ answer (id_refusal id) (Egui.had_focus_last_frame (meaning_of f) id))
+        × ((f : Focus) → layer_or_nothing f.nav.top_modal_layer ≡ (meaning_of f).top_modal_layer) }
 {}

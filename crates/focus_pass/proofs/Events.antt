@@ -8,12 +8,12 @@ use lib.Dec.{eqb}
 use lib.ListN.{length, get_or, take, drop, length-append, length-drop, drop_of_length-le}
 use lib.Seq.{get_or-take, get_or-drop, take_all, take-append_seam, drop-append_seam}
 use borrow.Author.Tests.{eqb-true, eqb-false}
-use Rattle.refusal.specs.Refusal.{none, lowest}
+use Rattle.refusal.specs.Refusal.{lowest}
 use Rattle.input.specs.declared.Event.{Event}
 use Rattle.input.specs.declared.EventFilter.{EventFilter}
 use Rattle.input.specs.Event.{event_refusal}
-use Rattle.focus_rules.specs.Rules.{nothing_heard, heard_of}
-use Rattle.focus_pass.specs.declared.Listened.{Listened}
+use Rattle.focus_rules.specs.declared.Heard.{Heard}
+use Rattle.focus_rules.specs.Rules.{heard_of}
 use Rattle.focus_pass.specs.Events.{missing, event_at, events_from, count_in, events_in}
 use Rattle.focus_pass.specs.Pass.{worst_of, heard_all}
 
@@ -68,23 +68,32 @@ cut row (y ∷ ys) h =
     let e : 4 ≡ length row = omega (arith, h, length-append row (y ∷ ys)) in
     rw e (take-append_seam row (y ∷ ys), drop-append_seam row (y ∷ ys))
 
--- ---- the loop: what the events that are left make of what was heard before them
-module _ (filter : EventFilter) where
-  abbrev pub listened_from : Listened → List ℕ → Listened
-  listened_from l words = record { refusal = worst_of l.refusal (events_in words); heard = heard_all filter l.heard (events_in words) }
+-- ---- the loop: what the events that are left make of what was heard before them; n is the lowest refusal so far
+module _ (filter : EventFilter) (words row rest : List ℕ) (w : words ≡ row ++ rest) (n : length row ≡ min 4 (length words)) (h : 0 < length words) (e : Event) (p : e ≡ event_at row 0) where
+  first : events_in words ≡ e ∷ events_in rest
+  first = let (a, b) = cut row rest (rw w at n) in rw (w, p) (rw (a, b) at (first_event (row ++ rest) (rw w at h)))
 
-  abbrev pub listened : List ℕ → Listened
-  listened words = listened_from (record { refusal = none; heard = nothing_heard }) words
+  pub worst_more : (k c m : ℕ) → c ≡ event_refusal e → m ≡ lowest k c → worst_of m (events_in rest) ≡ worst_of k (events_in words)
+  unfolding worst_of
+  worst_more k c m q r = rw (first, r, q)
 
-  pub listened_more : (l : Listened) (words row rest : List ℕ) → words ≡ row ++ rest → length row ≡ min 4 (length words) → 0 < length words
-      → (e : Event) → e ≡ event_at row 0 → (r : Listened) → r ≡ record { refusal = lowest l.refusal (event_refusal e); heard = heard_of filter l.heard e } → listened_from r rest ≡ listened_from l words
-  unfolding worst_of heard_all
-  listened_more l words row rest w n h e p r q =
-      let (a, b) = cut row rest (rw w at n) in
-      let k : events_in words ≡ event_at row 0 ∷ events_in rest = rw w (rw (a, b) at (first_event (row ++ rest) (rw w at h))) in
-      rw (k, q, p)
+  pub heard_more : (so_far next : Heard) → next ≡ heard_of filter so_far e → heard_all filter next (events_in rest) ≡ heard_all filter so_far (events_in words)
+  unfolding heard_all
+  heard_more so_far next r = rw (first, r)
 
-  pub listened_all : (l : Listened) (words : List ℕ) → length words ≡ 0 → l ≡ listened_from l words
-  unfolding events_in count_in events_from worst_of heard_all
-  listened_all l [] h = refl
-  listened_all l (w ∷ words) h = absurd (omega arith)
+module _ (words : List ℕ) (h : length words ≡ 0) where
+  none_left : events_in words ≡ []
+  unfolding events_in count_in events_from
+  none_left = go words h
+    where
+      go : (words : List ℕ) → length words ≡ 0 → events_from words 0 (length words / 4 + cond (eqb (length words % 4) 0) 0 1) ≡ []
+      go [] h = refl
+      go (w ∷ words) h = absurd (omega arith)
+
+  pub worst_all : (k : ℕ) → worst_of k (events_in words) ≡ k
+  unfolding worst_of
+  worst_all k = rw none_left
+
+  pub heard_through : (filter : EventFilter) (so_far : Heard) → heard_all filter so_far (events_in words) ≡ so_far
+  unfolding heard_all
+  heard_through filter so_far = rw none_left

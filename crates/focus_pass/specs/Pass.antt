@@ -9,11 +9,8 @@ use Rattle.input.specs.Event.{event_refusal}
 use Rattle.search.specs.declared.Candidate.{Candidate}
 use Rattle.focus_rules.specs.declared.Nav.{Nav}
 use Rattle.focus_rules.specs.declared.Heard.{Heard}
-use Rattle.focus_rules.specs.declared.Changed.{Changed}
-use Rattle.focus_rules.specs.Rules.{started_of, filter_of, nothing_heard, heard_of, begun_of, changed_to, interested_of, let_go}
+use Rattle.focus_rules.specs.Rules.{Changed, started_of, filter_of, nothing_heard, heard_of, begun_of, changed_to, interested_of, let_go}
 use Rattle.focus_cache.specs.Cache.{has_id, enlisted, without, full_refusal, slot_after}
-use Rattle.focus_pass.specs.declared.Interested.{Interested}
-use Rattle.focus_pass.specs.declared.Ignored.{Ignored}
 
 -- ---- begin_pass: too many events before anything else, then the lowest refusal of any event
 unfoldable pub worst_of : ℕ → List Event → ℕ
@@ -41,7 +38,13 @@ nav_begun nav held events =
 unfoldable pub begin_of : Nav → List Candidate → List Event → Changed
 begin_of nav held events = changed_to (begin_refusal events) nav (nav_begun nav held events)
 
--- ---- interested_in_focus
+-- ---- interested_in_focus: by what number it is refused, 0 for none, the fields after it, how many entries are held, and where the next call looks first
+pub record Interested : Type 0 where
+  pub refusal : ℕ
+  pub nav : Nav
+  pub count : ℕ
+  pub slot : ℕ
+
 unfoldable pub interest_refusal : ℕ → List Candidate → ℕ → ℕ
 interest_refusal room held id = lowest (id_refusal id) (full_refusal room held id)
 
@@ -50,6 +53,11 @@ interest_of nav room held count slot id =
     let refusal = interest_refusal room held id in
     record { refusal = refusal; nav = kept refusal nav (interested_of nav id); count = kept refusal count (length (enlisted held id)); slot = kept refusal slot (slot_after held slot id) }
 
--- ---- ignore_focus
+-- ---- ignore_focus: its refusal, the fields after it, and how many entries are held
+pub record Ignored : Type 0 where
+  pub refusal : ℕ
+  pub nav : Nav
+  pub count : ℕ
+
 unfoldable pub ignore_of : Nav → List Candidate → ℕ → ℕ → Ignored
 ignore_of nav held count id = record { refusal = id_refusal id; nav = kept (id_refusal id) nav (let_go nav id); count = kept (id_refusal id) count (length (without held id)) }

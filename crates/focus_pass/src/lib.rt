@@ -6,33 +6,28 @@
 //     any other       an event that moves no focus
 #![tactic(auto)]
 
-ghost use Rattle.std.specs.Prelude.{◌≡◌, ◌≤◌};
-ghost use Rattle.refusal.specs.Refusal.{lowest, none, kept};
-ghost use Rattle.input.specs.Event.{event_refusal};
-ghost use Rattle.focus_rules.specs.Rules.{nothing_heard, heard_of};
+ghost use Rattle.std.specs.Prelude.{◌≡◌, IfOk};
+ghost use Rattle.refusal.specs.Refusal.{number_in, none, kept};
+ghost use Rattle.focus_rules.specs.Rules.{nothing_heard};
 ghost use Rattle.focus_cache.specs.Cache.{room_in, held_in, enlisted, without, cache_in, cache_on};
 ghost use Rattle.focus_pass.specs.Events.{event_of, event_at, events_from, count_in, events_in};
 ghost use Rattle.focus_pass.specs.Pass.{worst_of, heard_all, is_granted, begin_of, interest_of, ignore_of};
 
-use focus_rules::{Changed, Heard, NO_DIRECTION, Nav};
+use focus_rules::{Heard, NO_DIRECTION, Nav};
 use input::{Event, EventFilter};
-use refusal::{BAD_LIST, EVENTS, NONE, ZERO_ID};
+use refusal::{EVENTS, Refusal};
 
-// An interest call's refusal, the fields after it, how many entries are held, and the place where the next call looks first.
+// The fields after an interest call, how many entries are held, and the place where the next call looks first.
 #[derive(Clone, Copy)]
-#[repr(C)]
 pub struct Interested {
-    pub refusal: u64,
     pub nav: Nav,
     pub count: usize,
     pub slot: usize,
 }
 
-// A call's refusal, the fields after it, and how many entries are held.
+// The fields after a call, and how many entries are held.
 #[derive(Clone, Copy)]
-#[repr(C)]
 pub struct Ignored {
-    pub refusal: u64,
     pub nav: Nav,
     pub count: usize,
 }
@@ -49,6 +44,7 @@ fn event_count(words: &[u64]) -> usize
 }
 
 // The event of four numbers; the second is a code for a key, and an id for a request.
+#[tactic(auto, unfolding(crate::specs::Events::event_of))]
 fn event_of(kind: u64, code: u64, id: u64, flags: u64, modifiers: u64) -> Event
     ensures { result ≡ event_of kind code id flags modifiers }
 {
@@ -81,44 +77,25 @@ fn event(row: &[u64]) -> Event
     )
 }
 
-#[derive(Clone, Copy)]
-struct Listened {
-    refusal: u64,
-    heard: Heard,
-}
-
-// The lower of two refusals, of which the second is seldom one.
-fn lower(a: u64, b: u64) -> u64
-    ensures { result ≡ lowest a b }
+// What the events come to, or the lowest refusal of any.
+#[tactic(auto, using(crate::proofs::Events::worst_more, crate::proofs::Events::heard_more, crate::proofs::Events::worst_all, crate::proofs::Events::heard_through))]
+fn listen_to(words: &[u64], filter: EventFilter) -> Result<Heard, Refusal>
+    ensures refusal { number_in result ≡ worst_of none (events_in words.now) }
+    ensures heard { IfOk result (λ h. h ≡ heard_all filter nothing_heard (events_in words.now)) }
 {
-    if b == NONE { a } else { refusal::lowest(a, b) }
-}
-
-// One event more.
-fn listen(so_far: Listened, filter: EventFilter, event: Event) -> Listened
-    ensures { result ≡ record { refusal = lowest so_far.refusal (event_refusal event); heard = heard_of filter so_far.heard event } }
-{
-    Listened {
-        refusal: lower(so_far.refusal, event.refusal()),
-        heard: navigation::heard(so_far.heard, filter, event),
-    }
-}
-
-fn listen_to(words: &[u64], filter: EventFilter) -> Listened
-    ensures { result ≡ record { refusal = worst_of none (events_in words.now); heard = heard_all filter nothing_heard (events_in words.now) } }
-{
-    let mut so_far = Listened {
-        refusal: NONE,
-        heard: Heard {
-            escaped: 0,
-            direction: NO_DIRECTION,
-            asked: 0,
-        },
+    let mut checked = Ok(());
+    let mut heard = Heard {
+        escaped: 0,
+        direction: NO_DIRECTION,
+        asked: 0,
     };
     for row in words.chunks(4) {
-        so_far = listen(so_far, filter, event(row));
+        let event = event(row);
+        checked = refusal::both(checked, event.check());
+        heard = navigation::heard(heard, filter, event);
     }
-    so_far
+    checked?;
+    Ok(heard)
 }
 
 #[tactic(auto, unfolding(crate::specs::Pass::is_granted))]
@@ -128,30 +105,27 @@ fn is_granted(ids: &[u64], rects: &[f32], count: usize, asked: u64) -> bool
     asked != 0 && focus_cache::contains(ids, rects, count, asked)
 }
 
-pub fn begin_pass(nav: Nav, ids: &[u64], rects: &[f32], count: usize, events: &[u64]) -> Changed
-    ensures { result ≡ begin_of nav (held_in count ids.now rects.now) (events_in events.now) }
+#[tactic(auto, unfolding(crate::specs::Pass::begin_of, crate::specs::Pass::nav_begun), using(crate::proofs::Calls::too_many, crate::proofs::Calls::few))]
+pub fn begin_pass(
+    nav: Nav,
+    ids: &[u64],
+    rects: &[f32],
+    count: usize,
+    events: &[u64],
+) -> Result<Nav, Refusal>
+    ensures refusal { number_in result ≡ (begin_of nav (held_in count ids.now rects.now) (events_in events.now)).refusal }
+    ensures nav { IfOk result (λ n. n ≡ (begin_of nav (held_in count ids.now rects.now) (events_in events.now)).nav) }
 {
     if EVENTS < event_count(events) {
-        return Changed {
-            refusal: BAD_LIST,
-            nav,
-        };
+        return Err(Refusal::BadList);
     }
     let start = navigation::started(nav);
-    let so_far = listen_to(events, navigation::event_filter(start));
-    if so_far.refusal == NONE {
-        let granted = is_granted(ids, rects, count, so_far.heard.asked);
-        return Changed {
-            refusal: NONE,
-            nav: navigation::begun(start, so_far.heard, granted),
-        };
-    }
-    Changed {
-        refusal: so_far.refusal,
-        nav,
-    }
+    let heard = listen_to(events, navigation::event_filter(start))?;
+    let granted = is_granted(ids, rects, count, heard.asked);
+    Ok(navigation::begun(start, heard, granted))
 }
 
+#[tactic(auto, unfolding(crate::specs::Pass::interest_of, crate::specs::Pass::interest_refusal, focus_cache::specs::Cache::enlisted_of, refusal::specs::Refusal::lowest))]
 pub fn interested_in_focus(
     nav: Nav,
     ids: &mut [u64],
@@ -159,44 +133,37 @@ pub fn interested_in_focus(
     count: usize,
     slot: usize,
     id: u64,
-) -> Interested
-    ensures { (result ≡ interest_of nav (room_in ids.old rects.old) (held_in count ids.old rects.old) count slot id) × (cache_in ids.new rects.new ≡ kept result.refusal (cache_in ids.old rects.old) (cache_on (cache_in ids.old rects.old) (enlisted (held_in count ids.old rects.old) id))) }
+) -> Result<Interested, Refusal>
+    ensures refusal { number_in result ≡ (interest_of nav (room_in ids.old rects.old) (held_in count ids.old rects.old) count slot id).refusal }
+    ensures after { IfOk result (λ r. let s = interest_of nav (room_in ids.old rects.old) (held_in count ids.old rects.old) count slot id in (r.nav ≡ s.nav) × (r.count ≡ s.count) × (r.slot ≡ s.slot)) }
+    ensures cache { cache_in ids.new rects.new ≡ kept (interest_of nav (room_in ids.old rects.old) (held_in count ids.old rects.old) count slot id).refusal (cache_in ids.old rects.old) (cache_on (cache_in ids.old rects.old) (enlisted (held_in count ids.old rects.old) id)) }
 {
-    if id == 0 {
-        return Interested {
-            refusal: ZERO_ID,
-            nav,
-            count,
-            slot,
-        };
-    }
-    let e = focus_cache::enlist(ids, rects, count, slot, id);
-    Interested {
-        refusal: e.refusal,
-        nav: if e.refusal == NONE {
-            navigation::interested(nav, id)
-        } else {
-            nav
-        },
+    refusal::check_id(id)?;
+    let e = focus_cache::enlist(ids, rects, count, slot, id)?;
+    Ok(Interested {
+        nav: navigation::interested(nav, id),
         count: e.count,
         slot: e.slot,
-    }
+    })
 }
 
 // Memory::ignore_focus.
-pub fn ignore_focus(nav: Nav, ids: &mut [u64], rects: &mut [f32], count: usize, id: u64) -> Ignored
-    ensures { (result ≡ ignore_of nav (held_in count ids.old rects.old) count id) × (cache_in ids.new rects.new ≡ kept result.refusal (cache_in ids.old rects.old) (cache_on (cache_in ids.old rects.old) (without (held_in count ids.old rects.old) id))) }
+#[tactic(auto, unfolding(crate::specs::Pass::ignore_of))]
+pub fn ignore_focus(
+    nav: Nav,
+    ids: &mut [u64],
+    rects: &mut [f32],
+    count: usize,
+    id: u64,
+) -> Result<Ignored, Refusal>
+    ensures refusal { number_in result ≡ (ignore_of nav (held_in count ids.old rects.old) count id).refusal }
+    ensures after { IfOk result (λ r. let s = ignore_of nav (held_in count ids.old rects.old) count id in (r.nav ≡ s.nav) × (r.count ≡ s.count)) }
+    ensures cache { cache_in ids.new rects.new ≡ kept (ignore_of nav (held_in count ids.old rects.old) count id).refusal (cache_in ids.old rects.old) (cache_on (cache_in ids.old rects.old) (without (held_in count ids.old rects.old) id)) }
 {
-    if id == 0 {
-        return Ignored {
-            refusal: ZERO_ID,
-            nav,
-            count,
-        };
-    }
-    Ignored {
-        refusal: NONE,
-        count: focus_cache::remove(ids, rects, count, id),
+    refusal::check_id(id)?;
+    let count = focus_cache::remove(ids, rects, count, id);
+    Ok(Ignored {
         nav: focus_calls::let_go(nav, id),
-    }
+        count,
+    })
 }

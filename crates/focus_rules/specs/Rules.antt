@@ -1,5 +1,6 @@
 -- Focus of memory/mod.rs (lines 503 to 538) without its cache, and what its methods and those of Memory do to these fields (lines 563 to 706 and 908 to 957). Definitions only.
-use Rattle.std.specs.Prelude.{ℕ, zero, suc, Bool, true, false, not, ◌&&◌, cond, Option, None, Some, eqb}
+use Rattle.std.specs.Prelude.{ℕ, Bool, true, false, not, ◌&&◌, cond, Option, None, Some, eqb}
+use Rattle.refusal.specs.Refusal.{kept}
 use Rattle.input.specs.declared.Event.{Event}
 use Rattle.input.specs.declared.Event.TheVariants.{Key, AccessKitFocus, Pointer, Zoom, Other}
 use Rattle.input.specs.declared.EventFilter.{EventFilter}
@@ -7,10 +8,8 @@ use Rattle.input.specs.declared.Navigation.{Navigation}
 use Rattle.input.specs.EventFilter.{default_filter, matches_key}
 use Rattle.input.specs.FocusDirection.{previous, next, no_direction, navigation_of}
 use Rattle.layers.specs.declared.LayerId.{LayerId}
-use Rattle.layer_queries.specs.declared.LayerAnswer.{LayerAnswer}
 use Rattle.focus_rules.specs.declared.Nav.{Nav}
 use Rattle.focus_rules.specs.declared.Heard.{Heard}
-use Rattle.focus_rules.specs.declared.Changed.{Changed}
 use Rattle.focus_rules.specs.declared.FocusWidget.{FocusWidget}
 
 -- ---- some fields anew
@@ -67,8 +66,8 @@ filter_of n = filter_in (focused_widget n)
 abbrev pub id_or_nothing : ℕ → Option ℕ
 id_or_nothing id = cond (eqb id 0) None (Some id)
 
-abbrev pub layer_or_nothing : LayerId → LayerAnswer
-layer_or_nothing layer = cond (eqb layer.id 0) LayerAnswer.Nothing (LayerAnswer.Is layer)
+abbrev pub layer_or_nothing : LayerId → Option LayerId
+layer_or_nothing layer = cond (eqb layer.id 0) None (Some layer)
 
 -- ---- begin_pass (lines 569 to 633): up to the events
 abbrev pub handed_over : Nav → Nav
@@ -130,10 +129,14 @@ unfoldable pub ended_of : Nav → Bool → Nav
 ended_of n used = with_modals (dropped_of n used) n.top_modal_layer_current_frame no_layer
 
 -- ---- the calls of Memory on these fields (lines 908 to 957)
+-- what a call comes to: by what number it is refused, 0 for none, and the fields after it
+pub record Changed : Type 0 where
+  pub refusal : ℕ
+  pub nav : Nav
+
 -- the next fields, unless the call is refused
 abbrev pub changed_to : ℕ → Nav → Nav → Changed
-changed_to zero n m = record { refusal = zero; nav = m }
-changed_to (suc k) n m = record { refusal = suc k; nav = n }
+changed_to k n m = record { refusal = k; nav = kept k n m }
 
 -- surrender_focus, ignore_focus: `if focus.focused() == Some(id) { focus.focused_widget = None }`
 unfoldable pub let_go : Nav → ℕ → Nav

@@ -37,14 +37,6 @@ pub struct FocusWidget {
     pub filter: EventFilter,
 }
 
-// A call's refusal, and the fields after it.
-#[derive(Clone, Copy)]
-#[repr(C)]
-pub struct Changed {
-    pub refusal: u64,
-    pub nav: Nav,
-}
-
 // What the events of a pass come to: 1 where Escape lets the focus go, the direction, and the id last asked for. Three numbers: the bytes that a flag would leave unused
 // cost more than the rest of the loop over the events.
 #[derive(Clone, Copy)]

@@ -2,12 +2,12 @@
 #![tactic(auto)]
 
 ghost use Rattle.std.specs.Prelude.{◌≡◌, ◌*◌};
-ghost use Rattle.refusal.specs.Refusal.{none};
+ghost use Rattle.refusal.specs.Refusal.{number_in, none};
 ghost use Rattle.grid.specs.Grid.{rect_refusal};
 ghost use Rattle.used.specs.Used.{rect_from, entries_in, repeated, worst_of, used_refusal};
 
 use emath::{Pos2, Rect};
-use refusal::{BAD_LIST, NONE, OFF_GRID};
+use refusal::Refusal;
 
 // As many cells as a prime near 1,024 whose reciprocal fits in 64 bits, so that the remainder is quick.
 const CELLS: u64 = 1013;
@@ -32,12 +32,12 @@ pub fn repeats(ids: &[u64]) -> bool
 
 // A rectangle of which a corner is missing is off the grid.
 #[tactic(auto, using(crate::proofs::Corners::corner_missing))]
-fn rect_refusal(corners: &[f32], i: usize) -> u64
-    ensures { result ≡ rect_refusal (rect_from corners.now (4 * i)) }
+fn check_rect(corners: &[f32], i: usize) -> Result<(), Refusal>
+    ensures { number_in result ≡ rect_refusal (rect_from corners.now (4 * i)) }
 {
     if i < corners.len() / 4 {
         let at = 4 * i;
-        refusal::number(grid::rect(Rect {
+        grid::rect(Rect {
             min: Pos2 {
                 x: corners[at],
                 y: corners[at + 1],
@@ -46,35 +46,36 @@ fn rect_refusal(corners: &[f32], i: usize) -> u64
                 x: corners[at + 2],
                 y: corners[at + 3],
             },
-        }))
+        })
     } else {
-        OFF_GRID
+        Err(Refusal::OffGrid)
     }
 }
 
 // The lowest refusal of an entry.
-fn worst(ids: &[u64], corners: &[f32]) -> u64
-    ensures { result ≡ worst_of none (entries_in ids.now corners.now) }
+#[tactic(auto, using(crate::proofs::Entries::worst_more, crate::proofs::Entries::worst_done))]
+fn check_entries(ids: &[u64], corners: &[f32]) -> Result<(), Refusal>
+    ensures { number_in result ≡ worst_of none (entries_in ids.now corners.now) }
 {
-    let mut refusal = NONE;
+    let mut checked = Ok(());
     for (i, &id) in ids.iter().enumerate() {
-        let entry = refusal::lowest(refusal::id_refusal(id), rect_refusal(corners, i));
-        refusal = refusal::lowest(refusal, entry);
+        let entry = refusal::both(refusal::check_id(id), check_rect(corners, i));
+        checked = refusal::both(checked, entry);
     }
-    refusal
+    checked
 }
 
-// By what number a pass that ends with these entries is refused, 0 if it is taken.
+// Whether a pass that ends with these entries is taken; too many are refused before anything else, and then the lowest refusal is told.
 #[tactic(auto, using(crate::proofs::Entries::too_many, crate::proofs::Entries::repeated_too, crate::proofs::Entries::only_entries))]
-pub fn refusal(ids: &[u64], corners: &[f32], limit: usize) -> u64
-    ensures { result ≡ used_refusal limit (entries_in ids.now corners.now) }
+pub fn check(ids: &[u64], corners: &[f32], limit: usize) -> Result<(), Refusal>
+    ensures { number_in result ≡ used_refusal limit (entries_in ids.now corners.now) }
 {
     if limit < ids.len() {
-        return BAD_LIST;
+        return Err(Refusal::BadList);
     }
-    let entries = worst(ids, corners);
+    let entries = check_entries(ids, corners);
     if repeats(ids) {
-        refusal::lowest(entries, BAD_LIST)
+        refusal::both(entries, Err(Refusal::BadList))
     } else {
         entries
     }

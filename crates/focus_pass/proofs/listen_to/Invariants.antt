@@ -1,7 +1,13 @@
--- `focus_pass::listen_to` meets its contract. The invariant: what is heard from here on is what is heard of all. Assumes nothing.
+-- `focus_pass::listen_to` meets its contract. The invariant: what is heard from here on, and refused, is what is heard and refused of all. Assumes nothing.
 use mathlib.Core.Path.{◌≡◌}
-use Rattle.focus_pass.proofs.Events.{listened_from, listened}
+use Rattle.refusal.specs.Refusal.{none, number_in}
+use Rattle.focus_rules.specs.Rules.{nothing_heard}
+use Rattle.focus_pass.specs.Events.{events_in}
+use Rattle.focus_pass.specs.Pass.{worst_of, heard_all}
 use Rattle.focus_pass.proofs.listen_to.Given as goal
 
 abbrev pub invariant-loop-row : goal.invariant-loop-row
-invariant-loop-row l = (l.row-iterator.size ≡ 4) × (listened_from l.filter l.so_far l.row-iterator.rest.now ≡ listened l.filter l.words)
+invariant-loop-row l =
+    (l.row-iterator.size ≡ 4)
+    × (worst_of (number_in l.checked) (events_in l.row-iterator.rest.now) ≡ worst_of none (events_in l.words))
+    × (heard_all l.filter l.heard (events_in l.row-iterator.rest.now) ≡ heard_all l.filter nothing_heard (events_in l.words))
