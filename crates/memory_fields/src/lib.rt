@@ -58,6 +58,7 @@ pub fn top_modal_layer(fields: Fields) -> Option<LayerId>
 
 // ---- calls that change the focus's fields
 
+#[tactic(auto, unfolding(memory_rules::specs::Memory::filter_set, focus::specs::Focus::filter_set))]
 pub fn set_focus_lock_filter(
     fields: Fields,
     id: u64,
@@ -69,6 +70,7 @@ pub fn set_focus_lock_filter(
     Ok(Fields { nav, ..fields })
 }
 
+#[tactic(auto, unfolding(memory_rules::specs::Memory::surrendered, focus::specs::Focus::surrendered))]
 pub fn surrender_focus(fields: Fields, id: u64) -> Result<Fields, Refusal>
     ensures { (rows : List ℕ) (map : Table) (cache : Cache) → done_of fields result rows map cache ≡ surrendered (memory_of fields rows map cache) id }
 {
@@ -76,6 +78,7 @@ pub fn surrender_focus(fields: Fields, id: u64) -> Result<Fields, Refusal>
     Ok(Fields { nav, ..fields })
 }
 
+#[tactic(auto, unfolding(memory_rules::specs::Memory::moved, focus::specs::Focus::moved))]
 pub fn move_focus(fields: Fields, direction: u64) -> Result<Fields, Refusal>
     ensures { (rows : List ℕ) (map : Table) (cache : Cache) → done_of fields result rows map cache ≡ moved (memory_of fields rows map cache) direction }
 {
@@ -94,6 +97,7 @@ fn interrupting(fields: Fields, nav: Nav) -> Fields
     }
 }
 
+#[tactic(auto, unfolding(memory_rules::specs::Memory::requested, focus::specs::Focus::requested))]
 pub fn request_focus(fields: Fields, id: u64) -> Result<Fields, Refusal>
     ensures { (rows : List ℕ) (map : Table) (cache : Cache) → done_of fields result rows map cache ≡ requested (memory_of fields rows map cache) id }
 {
@@ -101,6 +105,7 @@ pub fn request_focus(fields: Fields, id: u64) -> Result<Fields, Refusal>
     Ok(interrupting(fields, nav))
 }
 
+#[tactic(auto, unfolding(memory_rules::specs::Memory::requested_next, focus::specs::Focus::requested_next))]
 pub fn request_focus_next_frame(fields: Fields, id: u64) -> Result<Fields, Refusal>
     ensures { (rows : List ℕ) (map : Table) (cache : Cache) → done_of fields result rows map cache ≡ requested_next (memory_of fields rows map cache) id }
 {
@@ -108,6 +113,7 @@ pub fn request_focus_next_frame(fields: Fields, id: u64) -> Result<Fields, Refus
     Ok(interrupting(fields, nav))
 }
 
+#[tactic(auto, unfolding(memory_rules::specs::Memory::text_stopped))]
 pub fn stop_text_input(fields: Fields) -> Fields
     ensures { (rows : List ℕ) (map : Table) (cache : Cache) → memory_of result rows map cache ≡ text_stopped (memory_of fields rows map cache) }
 {

@@ -5,8 +5,7 @@ use Rattle.area.specs.declared.AreaState.{AreaState}
 use Rattle.input.specs.declared.Event.{Event}
 use Rattle.input.specs.declared.EventFilter.{EventFilter}
 use Rattle.layers.specs.declared.LayerId.{LayerId}
-use Rattle.areas.specs.declared.Changed.{Changed as AreasChanged}
-use Rattle.areas.specs.Areas.{state_set, to_top_of, sublayer_set}
+use Rattle.areas.specs.Areas.{Changed as AreasChanged, state_set, to_top_of, sublayer_set}
 use Rattle.search.specs.declared.Candidate.{Candidate}
 use Rattle.emath.specs.declared.Pos2.{Pos2}
 use Rattle.memory_rules.specs.declared.Memory.{Memory}

@@ -13,8 +13,6 @@ use Rattle.input.specs.declared.EventFilter.{EventFilter}
 use Rattle.layers.specs.declared.LayerId.{LayerId}
 use Rattle.layers.specs.Layers.{layer_refusal}
 use Rattle.layer_rows.specs.Rows.{held_rows}
-use Rattle.layer_queries.specs.declared.LayerAnswer.{LayerAnswer}
-use Rattle.layer_queries.specs.declared.LayerAnswer.TheVariants as Layer
 use Rattle.layer_queries.specs.Queries.{compared_by}
 use Rattle.area_table.specs.Table.{held_of}
 use Rattle.areas.specs.declared.Areas.{Areas}
@@ -26,7 +24,7 @@ use Rattle.focus_rules.specs.declared.Nav.{Nav}
 use Rattle.focus_rules.specs.Rules.{focus_on, layer_or_nothing}
 use Rattle.focus.specs.declared.Focus.{Focus}
 use Rattle.focus.specs.declared.Used.{Used}
-use Rattle.focus.specs.declared.Done.{Done as FocusDone}
+use Rattle.focus.specs.Focus.{Done as FocusDone}
 use Rattle.focus.specs.Focus as Focus
 use Rattle.memory_rules.specs.declared.Popup.{Popup}
 use Rattle.memory_rules.specs.declared.Memory.{Memory}
@@ -77,12 +75,11 @@ abbrev pub allows_answer : Memory → LayerId → Result Bool Refusal
 allows_answer m layer = answer (layer_refusal layer) (is_allowed m layer)
 
 -- ---- layer_id_at (843 to 850)
-abbrev pub unless_below : Memory → LayerAnswer → LayerAnswer
-unless_below m Layer.Nothing = Layer.Nothing
-unless_below m (Layer.Is layer) = cond (is_above m layer) (Layer.Is layer) (layer_or_nothing (nav_of m).top_modal_layer)
-unless_below m (Layer.Refused n) = Layer.Refused n
+abbrev pub unless_below : Memory → Option LayerId → Option LayerId
+unless_below m None = None
+unless_below m (Some layer) = cond (is_above m layer) (Some layer) (layer_or_nothing (nav_of m).top_modal_layer)
 
-unfoldable pub layer_id_at : Memory → Pos2 → LayerAnswer
+unfoldable pub layer_id_at : Memory → Pos2 → Option LayerId
 layer_id_at m pos = unless_below m (areasLayerIdAt (tables_of (areas_of m)) pos)
 
 -- ---- had_focus_last_frame, lost_focus, gained_focus, has_focus (859 to 895): id is not 0, as an id of 0 is refused

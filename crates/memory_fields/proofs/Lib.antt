@@ -1,2 +1,0 @@
--- Laws that the proofs of the calls share.
-pub mod Passed
