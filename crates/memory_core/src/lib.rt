@@ -2,7 +2,7 @@
 // open what the tables are that its function does not get.
 #![tactic(auto)]
 
-ghost use Rattle.std.specs.Prelude.{◌≡◌, not, ◌&&◌, ◌||◌, List, ℕ, eqb};
+ghost use Rattle.std.specs.Prelude.{◌≡◌, not, ◌||◌, List, ℕ, eqb};
 ghost use Rattle.area_table.specs.Table.{Table};
 ghost use Rattle.layer_rows.specs.Rows.{lent};
 ghost use Rattle.layer_queries.specs.Queries.{compared_by};
@@ -10,7 +10,7 @@ ghost use Rattle.focus_cache.specs.Cache.{Cache, cache_in};
 ghost use Rattle.focus_pass.specs.Events.{events_in};
 ghost use Rattle.used.specs.Used.{entries_in};
 ghost use Rattle.memory_rules.specs.State.{memory_of, done_of};
-ghost use Rattle.memory_rules.specs.Memory.{begun_of, ended_of, interested_of, ignored_of, above_answer, order_allows, allows_answer, modal_set};
+ghost use Rattle.memory_rules.specs.Memory.{begun_of, ended_of, interested_of, ignored_of, above_answer, order_allows, is_allowed, allows_answer, modal_set};
 
 use focus_rules::Nav;
 use layer_rows::LayerRows;
@@ -20,6 +20,7 @@ use refusal::{Refusal, USED};
 
 // ---- a pass
 
+#[tactic(auto, unfolding(memory_rules::specs::Memory::begun_of))]
 pub fn begin_pass(
     fields: Fields,
     ids: &[u64],
@@ -37,6 +38,7 @@ pub fn begin_pass(
     })
 }
 
+#[tactic(auto, using(crate::proofs::Passes::end_taken), unfolding(memory_rules::specs::Memory::ended_of))]
 pub fn end_pass(
     fields: Fields,
     rows: &mut [u64],
@@ -78,6 +80,7 @@ pub fn is_above(rows: LayerRows, modal: LayerId, layer: LayerId) -> bool
     modal.id == 0 || layer_queries::by_place(rows, layer, modal) != 0
 }
 
+#[tactic(auto, unfolding(memory_rules::specs::Memory::is_above))]
 pub fn is_above_modal_layer(fields: Fields, rows: &[u64], layer: LayerId) -> Result<bool, Refusal>
     ensures { (map : Table) (cache : Cache) → result ≡ above_answer (memory_of fields rows.now map cache) layer }
 {
@@ -92,20 +95,23 @@ fn order_allows(order: u64) -> bool
     true
 }
 
-fn is_allowed(rows: LayerRows, modal: LayerId, layer: LayerId) -> bool
-    ensures { result ≡ ((eqb modal.id 0 || not (eqb (compared_by (lent rows.entry) layer modal) 0)) && order_allows layer.order) }
+#[tactic(auto, unfolding(memory_rules::specs::Memory::is_allowed, memory_rules::specs::Memory::is_above))]
+fn is_allowed(fields: Fields, rows: &[u64], layer: LayerId) -> bool
+    ensures { (map : Table) (cache : Cache) → result ≡ is_allowed (memory_of fields rows.now map cache) layer }
 {
-    is_above(rows, modal, layer) && order_allows(layer.order)
+    let modal = fields.nav.top_modal_layer;
+    is_above(placed(fields, rows), modal, layer) && order_allows(layer.order)
 }
 
 pub fn allows_interaction(fields: Fields, rows: &[u64], layer: LayerId) -> Result<bool, Refusal>
     ensures { (map : Table) (cache : Cache) → result ≡ allows_answer (memory_of fields rows.now map cache) layer }
 {
     layer.check()?;
-    Ok(is_allowed(placed(fields, rows), fields.nav.top_modal_layer, layer))
+    Ok(is_allowed(fields, rows, layer))
 }
 
 // Of two that compare equal the later counts.
+#[tactic(auto, unfolding(memory_rules::specs::Memory::modal_set, focus::specs::Focus::modal_set))]
 pub fn set_modal_layer(fields: Fields, rows: &[u64], layer: LayerId) -> Result<Fields, Refusal>
     ensures { (map : Table) (cache : Cache) → done_of fields result rows.now map cache ≡ modal_set (memory_of fields rows.now map cache) layer }
 {
@@ -124,6 +130,7 @@ pub fn set_modal_layer(fields: Fields, rows: &[u64], layer: LayerId) -> Result<F
 
 // ---- interest in the focus
 
+#[tactic(auto, using(crate::proofs::Interest::interest_refused, crate::proofs::Interest::interest_turned_away, crate::proofs::Interest::interest_full, crate::proofs::Interest::interest_taken))]
 pub fn interested_in_focus(
     fields: Fields,
     rows: &[u64],
@@ -135,7 +142,7 @@ pub fn interested_in_focus(
     ensures { (map : Table) → done_of fields result rows.now map (cache_in ids.new rects.new) ≡ interested_of (memory_of fields rows.now map (cache_in ids.old rects.old)) id layer }
 {
     refusal::both(refusal::check_id(id), layer.check())?;
-    if !is_allowed(placed(fields, rows), fields.nav.top_modal_layer, layer) {
+    if !is_allowed(fields, rows, layer) {
         return Ok(fields);
     }
     let interested = focus_pass::interested_in_focus(
@@ -154,6 +161,7 @@ pub fn interested_in_focus(
     })
 }
 
+#[tactic(auto, unfolding(memory_rules::specs::Memory::ignored_of, focus::specs::Focus::ignored_of))]
 pub fn ignore_focus(
     fields: Fields,
     ids: &mut [u64],
