@@ -23,6 +23,7 @@ use Rattle.memory_rules.specs.declared.Memory.{Memory}
 use Rattle.memory_rules.specs.declared.Fields.{Fields}
 use Rattle.memory_rules.specs.State.{Done, focus_of, with_focus, memory_of, done_with}
 use Rattle.memory_rules.specs.Memory.{is_allowed, interested_of}
+use Rattle.memory_rules.proofs.Refused.{keeps, leaves}
 
 -- ---- the refusal of a call that is turned away for its id or its layer, whatever the cache says
 one_lowest : (n : ℕ) → lowest 1 n ≡ 1
@@ -44,14 +45,6 @@ first_refusal false true c allowed isFull h = rw (one_lowest (cond c bad_code no
 first_refusal false false true allowed isFull h = sym (two_lowest allowed isFull)
 first_refusal false false false allowed isFull h = absurd (h refl)
 
--- a call that is refused leaves the memory
-stays : (r : Refusal) (k : ℕ) (m after : Memory) → number_of r ≡ k → ◌≡◌ {A = Done} (record { memory = m; refusal = number_of r }) (done_with k m after)
-stays r k m after e = go (number_of r) (λ z. let p = positive r in omega arith) ∙ ap (λ (n : ℕ). done_with n m after) e
-  where
-    go : (n : ℕ) → (n ≡ 0 → ⊥) → ◌≡◌ {A = Done} (record { memory = m; refusal = n }) (done_with n m after)
-    go zero h = absurd (h refl)
-    go (suc n) h = refl
-
 module _ (f : Fields) (rows : List ℕ) (map : Table) (ids : List ℕ) (rects : List Float) (id : ℕ) (layer : LayerId) where
   abbrev cache : Cache
   cache = cache_in ids rects
@@ -68,7 +61,7 @@ module _ (f : Fields) (rows : List ℕ) (map : Table) (ids : List ℕ) (rects : 
   pub interest_refused : (r : Refusal) → number_of r ≡ turned → ◌≡◌ {A = Done} (record { memory = before; refusal = number_of r }) (interested_of before id layer)
   unfolding interested_of Focus.interested_of interest_of interest_refusal full_refusal layer_refusal
   interest_refused r e =
-      stays r _ before _ (e ∙ first_refusal (eqb id 0) (eqb layer.id 0) (ltb last_order layer.order) (is_allowed before layer) (ltb (room_in ids rects) (length (enlisted held id))) (λ z. let p = positive r in omega arith))
+      leaves r _ (e ∙ first_refusal (eqb id 0) (eqb layer.id 0) (ltb last_order layer.order) (is_allowed before layer) (ltb (room_in ids rects) (length (enlisted held id))) (λ z. let p = positive r in omega arith)) before _
 
   -- the call by its refusal, and by whether it is let through
   by : ℕ → Bool → Done
@@ -85,15 +78,7 @@ module _ (f : Fields) (rows : List ℕ) (map : Table) (ids : List ℕ) (rects : 
   module _ (z : 0 ≡ turned) (a : true ≡ is_allowed before layer) (after : Cache) (c : after ≡ kept (interest_of f.nav (room_in ids rects) held f.cached f.slot id).refusal cache (cache_on cache (enlisted held id))) where
     pub interest_full : (r : Refusal) → number_of r ≡ (interest_of f.nav (room_in ids rects) held f.cached f.slot id).refusal → ◌≡◌ {A = Done} (record { memory = memory_of f rows map after; refusal = number_of r }) (interested_of before id layer)
     unfolding lowest by Focus.interested_of
-    interest_full r e =
-        (λ i. record { memory = memory_of f rows map ((c ∙ same) i); refusal = number_of r }) ∙ stays r _ before _ e ∙ by_test true z a
-      where
-        same : kept (interest_of f.nav (room_in ids rects) held f.cached f.slot id).refusal cache (cache_on cache (enlisted held id)) ≡ cache
-        same = ap (λ (n : ℕ). kept n cache (cache_on cache (enlisted held id))) (sym e) ∙ go (number_of r) (λ z. let p = positive r in omega arith)
-          where
-            go : (n : ℕ) → (n ≡ 0 → ⊥) → kept n cache (cache_on cache (enlisted held id)) ≡ cache
-            go zero h = absurd (h refl)
-            go (suc n) h = refl
+    interest_full r e = (λ i. record { memory = memory_of f rows map ((c ∙ keeps r _ e _ _) i); refusal = number_of r }) ∙ leaves r _ e before _ ∙ by_test true z a
 
     pub interest_taken : let s = interest_of f.nav (room_in ids rects) held f.cached f.slot id in 0 ≡ s.refusal → (nav : Nav) (count slot : ℕ) → (nav ≡ s.nav) × (count ≡ s.count) × (slot ≡ s.slot)
         → ◌≡◌ {A = Done} (record {

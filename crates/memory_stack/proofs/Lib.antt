@@ -1,3 +1,2 @@
--- Laws that the proofs share: of the calls that change the stack, and of what is hit.
+-- A law that a proof of a call uses.
 pub mod Stacked
-pub mod Hits

@@ -19,6 +19,7 @@ use memory_rules::Fields;
 use refusal::Refusal;
 
 // What the hit layer is answered by, where it is below the modal layer.
+#[tactic(auto, unfolding(memory_rules::specs::Memory::is_above))]
 fn unless_below(fields: Fields, rows: &[u64], layer: LayerId) -> Option<LayerId>
     ensures { (map : Table) (cache : Cache) → result ≡ unless_below (memory_of fields rows.now map cache) (Some layer) }
 {
@@ -30,6 +31,7 @@ fn unless_below(fields: Fields, rows: &[u64], layer: LayerId) -> Option<LayerId>
     }
 }
 
+#[tactic(auto, unfolding(memory_rules::specs::Memory::layer_id_at))]
 pub fn layer_id_at(
     fields: Fields,
     rows: &[u64],
@@ -54,6 +56,7 @@ pub fn layer_id_at(
     unless_below(fields, rows, layer)
 }
 
+#[tactic(auto, unfolding(memory_rules::specs::Memory::area_rect))]
 pub fn area_rect(
     fields: Fields,
     ids: &[u64],
@@ -73,6 +76,7 @@ pub fn area_rect(
     Ok(areas.get(0, id).map(|s| s.rect_unchecked()))
 }
 
+#[tactic(auto, unfolding(areas::specs::Areas::state_set))]
 pub fn set_state(
     fields: Fields,
     rows: &mut [u64],
@@ -101,6 +105,7 @@ pub fn set_state(
     })
 }
 
+#[tactic(auto, unfolding(areas::specs::Areas::to_top_of))]
 pub fn move_to_top(fields: Fields, rows: &mut [u64], layer: LayerId) -> Result<Fields, Refusal>
     ensures { (map : Table) (cache : Cache) → done_of fields result rows.new map cache ≡ with_stack (memory_of fields rows.old map cache) (to_top_of (areas_of (memory_of fields rows.old map cache)) layer) }
 {
@@ -108,6 +113,7 @@ pub fn move_to_top(fields: Fields, rows: &mut [u64], layer: LayerId) -> Result<F
     Ok(Fields { layers, ..fields })
 }
 
+#[tactic(auto, unfolding(areas::specs::Areas::sublayer_set))]
 pub fn set_sublayer(
     fields: Fields,
     rows: &mut [u64],

@@ -1,13 +1,11 @@
 -- `memory_stack::layer_id_at` meets its contract. Assumes nothing.
-use mathlib.Core.Path.{◌∙◌}
-use Rattle.memory_stack.proofs.Hits.{by_hit}
+use mathlib.Core.Path.{sym, ap, ◌∙◌}
+use Rattle.memory_rules.specs.State.{memory_of}
+use Rattle.memory_rules.specs.Memory.{unless_below, layer_id_at}
+use Rattle.area_table.specs.Table.{table_in}
 use Rattle.memory_stack.proofs.layer_id_at.Goals as goal
 
-pub returns-in-Nothing : goal.returns-in-Nothing
-returns-in-Nothing c = λ cache. by_hit _ _ _ _ c.layer_id_at.ensures c.in-Nothing.is
-
-pub returns-in-Is : goal.returns-in-Is
-returns-in-Is c = λ cache. c.unless_below.ensures _ cache ∙ by_hit _ _ _ _ c.layer_id_at.ensures c.in-Is.is
-
-pub returns-in-Refused : goal.returns-in-Refused
-returns-in-Refused c = λ cache. by_hit _ _ _ _ c.layer_id_at.ensures c.in-Refused.is
+pub returns : goal.returns
+unfolding layer_id_at
+returns c =
+    λ cache. c.unless_below.ensures _ _ ∙ ap (unless_below (memory_of c.args.fields c.args.rows.now (table_in c.args.ids.now c.args.codes.now c.args.floats.now) cache)) c.in_ok-layer.ensures
