@@ -108,11 +108,13 @@ pub fn begin_pass(m: Memory, e: Events) -> Result<Memory, Refusal>
 pub fn interested_in_focus(mut m: Memory, id: u64, layer: LayerId) -> Result<Memory, Refusal>
     ensures { done m result ≡ interested_of m id layer }
 {
+    let fields = fields_of(m);
+    let viewport = &mut m.viewport;
     let interested = memory_core::interested_in_focus(
-        fields_of(m),
-        &m.viewport.areas.rows,
-        &mut m.viewport.focus.ids,
-        &mut m.viewport.focus.rects,
+        fields,
+        &viewport.areas.rows,
+        &mut viewport.focus.ids,
+        &mut viewport.focus.rects,
         id,
         layer,
     );

@@ -1,17 +1,10 @@
 -- `memory::ignore_focus` meets its contract. Assumes nothing.
-use mathlib.Core.Path.{sym}
-use Rattle.memory.proofs.Parts.{ids_long, rects_long, stores}
-use Rattle.memory_rules.specs.Memory.{ignored_of}
+use Rattle.focus_cache.specs.Cache.{cache_in}
+use Rattle.memory.proofs.Parts.{stores}
+use Rattle.memory_rules.specs.State.{areas_of}
+use Rattle.memory_rules.specs.Calls.{IgnoreFocus, done_by}
 use Rattle.memory.proofs.ignore_focus.Goals as goal
 
-pub slice_bounds-ignore_focus-end : goal.slice_bounds-ignore_focus-end
-slice_bounds-ignore_focus-end c =
-    sym (ids_long c.args.m c.well_formed.0)
-
-pub slice_bounds-ignore_focus-end-2 : goal.slice_bounds-ignore_focus-end-2
-slice_bounds-ignore_focus-end-2 c =
-    sym (rects_long c.args.m c.well_formed.0)
-
 pub returns : goal.returns
-returns c =
-    stores c.args.m (λ m. ignored_of m c.args.id) _ c.fields_of.ensures _ _ _ _ _ _ c.with_cache.ensures (c.ignore_focus-r.ensures _ _) _ c.done.ensures
+unfolding done_by
+returns c = stores (IgnoreFocus c.args.id) c.args.m (areas_of c.args.m).rows (cache_in c.ignore_focus-ignored.new.ids c.ignore_focus-ignored.new.rects) _ c.fields_of.ensures c.ignore_focus-ignored.result c.done.result c.done.ensures (c.ignore_focus-ignored.ensures _ _)
