@@ -1,15 +1,11 @@
--- The record and its parts: a call on the fields at the record's own tables is one on the record; how long the tables are. Assumes nothing.
+-- The record and its parts: a call on the fields at the record's own tables is one on the record. Assumes nothing.
 use mathlib.Core.Path.{◌≡◌, sym, ap, ◌∙◌}
-use mathlib.Core.List.{List, [], ◌∷◌}
+use mathlib.Core.List.{List}
 use Prim.Native.Nat.{ℕ}
 use native.Mathlib.Omega.{arith}
 use Rattle.std.specs.Prelude.{Result, Ok, Err}
 use Rattle.refusal.specs.declared.Refusal.{Refusal}
 use Rattle.refusal.proofs.Laws.{positive}
-use lib.ListN.{length}
-use denote.Laws.{Is}
-use denote.Struct.Laws as Struct
-use borrow.Author.Rules.{length_unmapped}
 use Rattle.area_table.specs.Table.{Table, table_in}
 use Rattle.focus_cache.specs.Cache.{Cache, cache_in}
 use Rattle.memory_rules.specs.declared.Memory.{Memory}
@@ -17,8 +13,6 @@ use Rattle.memory_rules.specs.declared.Fields.{Fields}
 use Rattle.memory_rules.specs.State.{Done, areas_of, focus_of, memory_of, fields_of, done, done_of}
 use Rattle.memory_rules.specs.Calls.{Call, done_by}
 use Rattle.memory_rules.proofs.Refused.{refused}
-use Rattle.memory_rules.specs.contracts.Memory as Row
-use Rattle.memory_rules.proofs.Memory.TheLaws as RowLaws
 
 -- ---- the record's own tables
 abbrev table_of : Memory → Table
@@ -68,17 +62,3 @@ written m rows cache = memory_of (fields_of m) rows (table_of m) cache
 pub stores : (call : Call) (m : Memory) (rows : List ℕ) (cache : Cache) (f : Fields) → f ≡ fields_of m → (r : Result Fields Refusal) (out : Result Memory Refusal) → done (written m rows cache) out ≡ done_of (fields_of m) r rows (table_of m) cache
     → done_of f r rows (table_of m) cache ≡ done_by call (over m f) → done m out ≡ done_by call m
 stores call m rows cache f e r out q h = copied call m (written m rows cache) out (q ∙ ap (λ (g : Fields). done_of g r rows (table_of m) cache) (sym e) ∙ own m (done_by call) f e _ h)
-
--- ---- how long the tables are, by what owning the record tells
-abbrev pub Owned : Memory → Type 0
-Owned m = Is Row.the_row m (Struct.val Row.the_type RowLaws.the_laws m ∷ [])
-
-module _ (m : Memory) (o : Owned m) where
-  pub rows_long : length (areas_of m).rows ≡ 512
-  rows_long = search (length_unmapped, o)
-
-  pub ids_long : length (focus_of m).ids ≡ 256
-  ids_long = search (length_unmapped, o)
-
-  pub rects_long : length (focus_of m).rects ≡ 1024
-  rects_long = search (length_unmapped, o)
