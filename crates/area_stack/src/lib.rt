@@ -1,5 +1,5 @@
 // The calls that need the layers and the states of their areas, in place on lent tables of any length: the rows of crate `layer_rows` and the map of crate
-// `area_table`. How many rows and states are held goes along by value.
+// `area_table`. How many rows and states are held goes along by value; `set_state` is lent the tables themselves, as C lends them.
 #![tactic(auto)]
 
 ghost use Rattle.std.specs.Prelude.{◌≡◌, drop, IfOk};

@@ -2,24 +2,24 @@
 // starts and how many elements it has. Each function gives what the one that it calls gives.
 #![tactic(auto)]
 
-ghost use Rattle.std.specs.Prelude.{◌≡◌, ◌/◌, min, length};
+ghost use Rattle.std.specs.Prelude.{◌≡◌, ℕ, ◌/◌, min, length, IfOk};
 ghost use Rattle.widget_rows.specs.Rows.{table_in};
 ghost use Rattle.widget_table.specs.Table.{refusal_of, insert_of, cleared_cells};
 ghost use Rattle.search.specs.Search.{table_of, find_of};
 ghost use Rattle.layer_rows.specs.Rows.{held_rows, rows_on};
 ghost use Rattle.layer_sort.specs.Sort.{end_rows};
-ghost use Rattle.refusal.specs.Refusal.{kept};
+ghost use Rattle.refusal.specs.Refusal.{number_in, kept};
 ghost use Rattle.layer_table.specs.Layers.{room_in, to_top, top_refusal, with_sublayer, sublayer_refusal};
 ghost use Rattle.area_stack.specs.Stack.{tables_in, set_state_refusal, set_state_of, layer_id_at};
 ghost use Rattle.board.specs.Board.{area_of, layer_of};
 
-use area::{Align2, AreaState, PivotPos, Size};
-use area_stack::Changed;
-use emath::{Pos2, Rect};
-use layer_queries::LayerAnswer;
-use layer_table::Stacked;
+use area::{Align2, AreaState, PivotPos};
+use area_stack::Counts;
+use area_table::AreaTable;
+use emath::{Pos2, Rect, Vec2};
+use layer_rows::LayerRows;
 use layers::LayerId;
-use refusal::NONE;
+use refusal::Refusal;
 use widget_rect::WidgetRect;
 
 // `search::find` from the rectangle left, top, right, bottom.
@@ -56,6 +56,7 @@ pub struct Inserted {
 }
 
 // `widget_table::insert`.
+#[tactic(auto, unfolding(widget_table::specs::Table::insert_of))]
 #[unsafe(no_mangle)]
 pub extern "C" fn jaturemi_insert(
     cells: &mut [u64],
@@ -70,10 +71,7 @@ pub extern "C" fn jaturemi_insert(
     ensures { (result.refusal ≡ refusal_of (table_in count cells.old ids.old words.old rects.old) layer new) × (table_in result.count cells.new ids.new words.new rects.new ≡ insert_of (table_in count cells.old ids.old words.old rects.old) layer new move_to_top) }
 {
     match widget_table::insert(cells, ids, words, rects, count, layer, new, move_to_top) {
-        Ok(count) => Inserted {
-            refusal: NONE,
-            count,
-        },
+        Ok(count) => Inserted { refusal: 0, count },
         Err(refused) => Inserted {
             refusal: u64::from(refused),
             count,
@@ -97,12 +95,25 @@ fn area(x: f32, y: f32, width: f32, height: f32, interactable: bool) -> AreaStat
     AreaState {
         pivot_pos: PivotPos::At(x, y),
         pivot: Align2 { x: 0, y: 0 },
-        size: Size::Of(width, height),
+        size: Some(Vec2 {
+            x: width,
+            y: height,
+        }),
         interactable,
     }
 }
 
+// By what number a state is refused, 0 for none, and how many rows and states are then held: a record for C, which has no Result.
+#[derive(Clone, Copy)]
+#[repr(C)]
+pub struct Changed {
+    pub refusal: u64,
+    pub count: usize,
+    pub states: usize,
+}
+
 // `area_stack::set_state` of an area by its left top corner and its size.
+#[tactic(auto, unfolding(area_stack::specs::Stack::set_state_of))]
 #[unsafe(no_mangle)]
 pub extern "C" fn jaturemi_set_state(
     rows: &mut [u64],
@@ -121,7 +132,40 @@ pub extern "C" fn jaturemi_set_state(
     ensures { (result.refusal ≡ set_state_refusal (tables_in count states rows.old ids.old codes.old floats.old) layer (area_of x y width height interactable)) × (tables_in result.count result.states rows.new ids.new codes.new floats.new ≡ set_state_of (tables_in count states rows.old ids.old codes.old floats.old) layer (area_of x y width height interactable)) }
 {
     let state = area(x, y, width, height, interactable);
-    area_stack::set_state(rows, ids, codes, floats, count, states, layer, state)
+    match area_stack::set_state(rows, ids, codes, floats, count, states, layer, state) {
+        Ok(Counts { count, states }) => Changed {
+            refusal: 0,
+            count,
+            states,
+        },
+        Err(refused) => Changed {
+            refusal: u64::from(refused),
+            count,
+            states,
+        },
+    }
+}
+
+// By what number a call on the layers is refused, 0 for none, and how many rows are then held: a record for C, which has no Result.
+#[derive(Clone, Copy)]
+#[repr(C)]
+pub struct Stacked {
+    pub refusal: u64,
+    pub count: usize,
+}
+
+// A refused call leaves how many were held.
+fn to_c(taken: Result<usize, Refusal>, count: usize) -> Stacked
+    ensures refusal { result.refusal ≡ number_in taken }
+    ensures count { (n : ℕ) → IfOk taken (λ k. k ≡ n) → result.count ≡ kept (number_in taken) count n }
+{
+    match taken {
+        Ok(count) => Stacked { refusal: 0, count },
+        Err(refused) => Stacked {
+            refusal: u64::from(refused),
+            count,
+        },
+    }
 }
 
 // `layer_table::move_to_top`.
@@ -129,7 +173,7 @@ pub extern "C" fn jaturemi_set_state(
 pub extern "C" fn jaturemi_move_to_top(rows: &mut [u64], count: usize, layer: LayerId) -> Stacked
     ensures { (result.refusal ≡ top_refusal (room_in rows.old) (held_rows count rows.old) layer) × (result.count ≡ kept result.refusal count (length (to_top (held_rows count rows.old) layer))) × (rows.new ≡ kept result.refusal rows.old (rows_on rows.old (to_top (held_rows count rows.old) layer))) }
 {
-    layer_table::move_to_top(rows, count, layer)
+    to_c(layer_table::move_to_top(rows, count, layer), count)
 }
 
 // `layer_table::set_sublayer`.
@@ -142,7 +186,8 @@ pub extern "C" fn jaturemi_set_sublayer(
 ) -> Stacked
     ensures { (result.refusal ≡ sublayer_refusal (room_in rows.old) (held_rows count rows.old) parent child) × (result.count ≡ kept result.refusal count (length (with_sublayer (held_rows count rows.old) parent child))) × (rows.new ≡ kept result.refusal rows.old (rows_on rows.old (with_sublayer (held_rows count rows.old) parent child))) }
 {
-    layer_table::set_sublayer(rows, count, parent, child)
+    let taken = layer_table::set_sublayer(rows, count, parent, child);
+    to_c(taken, count)
 }
 
 // `layer_sort::end_pass`.
@@ -153,18 +198,7 @@ pub extern "C" fn jaturemi_end_pass(rows: &mut [u64], count: usize) -> usize
     layer_sort::end_pass(rows, count)
 }
 
-// The layer, of id 0 where there is none.
-fn layer_or_none(a: LayerAnswer) -> LayerId
-    ensures { result ≡ layer_of a }
-{
-    match a {
-        LayerAnswer::Nothing => LayerId { order: 0, id: 0 },
-        LayerAnswer::Is(layer) => layer,
-        LayerAnswer::Refused(_) => LayerId { order: 0, id: 0 },
-    }
-}
-
-// `area_stack::layer_id_at`.
+// `area_stack::layer_id_at`: the layer, of id 0 where there is none.
 #[unsafe(no_mangle)]
 pub extern "C" fn jaturemi_layer_id_at(
     rows: &[u64],
@@ -178,6 +212,12 @@ pub extern "C" fn jaturemi_layer_id_at(
 ) -> LayerId
     ensures { result ≡ layer_of (layer_id_at (tables_in count states rows.now ids.now codes.now floats.now) (record { x = x; y = y })) }
 {
-    let pos = Pos2 { x: x, y: y };
-    layer_or_none(area_stack::layer_id_at(rows, ids, codes, floats, count, states, pos))
+    let stack = LayerRows { count, words: rows };
+    let areas = AreaTable {
+        count: states,
+        ids,
+        codes,
+        floats,
+    };
+    area_stack::layer_id_at(stack, areas, Pos2 { x, y }).unwrap_or(LayerId { order: 0, id: 0 })
 }

@@ -91,7 +91,8 @@ impl LayerRows<'_> {
     // The place of a layer's row, or how many are held where it has none.
     #[tactic(auto, using(crate::proofs::Rows::spot_over, crate::proofs::Rows::spot_found), unfolding(layers::specs::Layers::is_layer))]
     pub fn spot(self, layer: LayerId) -> usize
-        ensures { result ≡ spot_in (lent self.entry) layer }
+        ensures place { result ≡ spot_in (lent self.entry) layer }
+        ensures room { result ≤ length self.entry.words.now / 8 }
     {
         let n = self.held();
         for k in 0..n {

@@ -2,7 +2,7 @@
 use mathlib.Core.Path.{◌≡◌, refl, sym, ap, ◌∙◌}
 use mathlib.Core.Bool.{Bool, true, false, cond}
 use mathlib.Core.List.{List, [], ◌∷◌}
-use Prim.Native.Nat.{ℕ, suc, ◌+◌, ◌-◌, ◌/◌, min, max, ◌≤◌}
+use Prim.Native.Nat.{ℕ, suc, ◌+◌, ◌-◌, ◌/◌, min, max}
 use native.Mathlib.Omega.{arith}
 use lib.ListN.{length}
 use Rattle.layers.specs.declared.LayerId.{LayerId}
@@ -11,7 +11,7 @@ use Rattle.stacking.proofs.Layers.{same_layers_lem}
 use Rattle.layer_rows.specs.declared.Row.{Row}
 use Rattle.layer_rows.specs.Rows.{held_rows, new_row, spot_in, marked}
 use Rattle.layer_rows.proofs.Rows.{held_length}
-use Rattle.layer_rows.proofs.Marks.{mark_length, spot_most}
+use Rattle.layer_rows.proofs.Marks.{mark_length}
 use Rattle.layer_table.specs.Layers.{same, child_row, with_sublayer}
 
 -- ---- two layers that are marked one after the other, by g and by f, where g keeps a row's layer
@@ -46,9 +46,6 @@ module _ (f g : Row → Row) (keeps : (r : Row) → (g r).layer ≡ r.layer) (p 
 
 -- ---- from what the calls gave: n rows are held, k is a layer's place, and m rows there are once it has one
 module _ (count : ℕ) (w : List ℕ) where
-  pub spot_fits : (layer : LayerId) (k : ℕ) → k ≡ spot_in (held_rows count w) layer → k ≤ length w / 8
-  spot_fits layer k e = omega (arith, spot_most (held_rows count w) layer, held_length count w)
-
   module _ (n : ℕ) (q : n ≡ min count (length w / 8)) where
     pub marked_count : (f : Row → Row) (layer : LayerId) (k m : ℕ) → k ≡ spot_in (held_rows count w) layer → m ≡ max n (k + 1) → m ≡ length (marked f (held_rows count w) layer)
     marked_count f layer k m e h = omega (arith, mark_length f layer (held_rows count w), held_length count w)

@@ -124,6 +124,7 @@ fn check_family(rows: LayerRows, parent: LayerId, child: LayerId) -> Result<(), 
 }
 
 // How many rows there are once both layers have one.
+#[tactic(auto, using(crate::proofs::Counts::both_one, crate::proofs::Counts::both_two), unfolding(layers::specs::Layers::is_layer))]
 fn with_both(rows: LayerRows, parent: LayerId, child: LayerId) -> usize
     ensures { result ≡ length (with_sublayer (lent rows.entry) parent child) }
 {

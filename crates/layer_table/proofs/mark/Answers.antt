@@ -1,10 +1,5 @@
-use native.Mathlib.Omega.{arith}
-use Rattle.layer_table.proofs.Counts.{spot_fits}
 use Rattle.layer_table.proofs.Changes.{changed}
 use Rattle.layer_table.proofs.mark.Goals as goal
 
-pub with_row-n-requires : goal.with_row-n-requires
-with_row-n-requires g c = omega (arith, spot_fits _ _ _ _ c.spot-k.ensures)
-
 pub returns : goal.returns
-returns g c = λ f gives. changed f _ _ _ _ _ _ c.spot-k.ensures c.held.ensures c.with_row-n.ensures c.requires.room _ _ c.row_at.ensures (gives _ _ c.change-r.ensures) _ c.put_row.ensures
+returns g c = λ f gives. changed f _ _ _ _ _ _ c.spot-k.ensures.place c.held.ensures c.with_row-n.ensures c.requires.room _ _ c.row_at.ensures (gives _ _ c.change-r.ensures) _ c.put_row.ensures
