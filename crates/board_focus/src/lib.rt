@@ -2,26 +2,73 @@
 // many elements it has. Each function gives what the one that it calls gives.
 #![tactic(auto)]
 
-ghost use Rattle.std.specs.Prelude.{◌≡◌};
-ghost use Rattle.refusal.specs.Refusal.{id_refusal, code_refusal, kept};
+ghost use Rattle.std.specs.Prelude.{◌≡◌, IfOk};
+ghost use Rattle.refusal.specs.Refusal.{number_in, id_refusal, code_refusal, kept};
 ghost use Rattle.refusal.specs.Limits.{last_direction};
 ghost use Rattle.layers.specs.Layers.{layer_refusal};
-ghost use Rattle.focus_rules.specs.Rules.{changed_to, focus_on, with_next, let_go, filtered_of, with_direction, with_modals};
+ghost use Rattle.focus_rules.specs.Rules.{focus_on, with_next, let_go, filtered_of, with_direction, with_modals};
 ghost use Rattle.focus_cache.specs.Cache.{room_in, held_in, enlisted, without, cache_in, cache_on};
 ghost use Rattle.focus_pass.specs.Events.{events_in};
 ghost use Rattle.focus_pass.specs.Pass.{begin_of, interest_of, ignore_of};
 ghost use Rattle.used.specs.Used.{entries_in};
 ghost use Rattle.focus_end.specs.End.{end_of, cache_ended};
 
-use focus_end::Ended;
-use focus_pass::{Ignored, Interested};
-use focus_rules::{Changed, Nav};
+use focus_rules::Nav;
 use input::EventFilter;
 use layers::LayerId;
+use refusal::{NONE, Refusal};
+
+// A call's refusal, 0 for none, and the fields after it: records for C, which has no Result.
+#[derive(Clone, Copy)]
+#[repr(C)]
+pub struct Changed {
+    pub refusal: u64,
+    pub nav: Nav,
+}
+
+// And how many entries are held, and the place where the next call looks first.
+#[derive(Clone, Copy)]
+#[repr(C)]
+pub struct Interested {
+    pub refusal: u64,
+    pub nav: Nav,
+    pub count: usize,
+    pub slot: usize,
+}
+
+#[derive(Clone, Copy)]
+#[repr(C)]
+pub struct Ignored {
+    pub refusal: u64,
+    pub nav: Nav,
+    pub count: usize,
+}
+
+#[derive(Clone, Copy)]
+#[repr(C)]
+pub struct Ended {
+    pub refusal: u64,
+    pub nav: Nav,
+    pub count: usize,
+}
+
+// The record of a call on these fields.
+fn after(nav: Nav, answer: Result<Nav, Refusal>) -> Changed
+    ensures { (result.refusal ≡ number_in answer) × ((next : Nav) → IfOk answer (λ n. n ≡ next) → result.nav ≡ kept (number_in answer) nav next) }
+{
+    match answer {
+        Ok(nav) => Changed { refusal: NONE, nav },
+        Err(refused) => Changed {
+            refusal: u64::from(refused),
+            nav,
+        },
+    }
+}
 
 // ---- the core in place
 
 // `focus_pass::begin_pass`.
+#[tactic(auto, unfolding(focus_pass::specs::Pass::begin_of))]
 #[unsafe(no_mangle)]
 pub extern "C" fn jaturemi_begin_pass(
     nav: Nav,
@@ -30,12 +77,13 @@ pub extern "C" fn jaturemi_begin_pass(
     count: usize,
     events: &[u64],
 ) -> Changed
-    ensures { result ≡ begin_of nav (held_in count ids.now rects.now) (events_in events.now) }
+    ensures { let s = begin_of nav (held_in count ids.now rects.now) (events_in events.now) in (result.refusal ≡ s.refusal) × (result.nav ≡ s.nav) }
 {
-    focus_pass::begin_pass(nav, ids, rects, count, events)
+    after(nav, focus_pass::begin_pass(nav, ids, rects, count, events))
 }
 
 // `focus_pass::interested_in_focus`.
+#[tactic(auto, unfolding(focus_pass::specs::Pass::interest_of))]
 #[unsafe(no_mangle)]
 pub extern "C" fn jaturemi_interested_in_focus(
     nav: Nav,
@@ -45,12 +93,27 @@ pub extern "C" fn jaturemi_interested_in_focus(
     slot: usize,
     id: u64,
 ) -> Interested
-    ensures { (result ≡ interest_of nav (room_in ids.old rects.old) (held_in count ids.old rects.old) count slot id) × (cache_in ids.new rects.new ≡ kept result.refusal (cache_in ids.old rects.old) (cache_on (cache_in ids.old rects.old) (enlisted (held_in count ids.old rects.old) id))) }
+    ensures answer { let s = interest_of nav (room_in ids.old rects.old) (held_in count ids.old rects.old) count slot id in (result.refusal ≡ s.refusal) × (result.nav ≡ s.nav) × (result.count ≡ s.count) × (result.slot ≡ s.slot) }
+    ensures cache { cache_in ids.new rects.new ≡ kept result.refusal (cache_in ids.old rects.old) (cache_on (cache_in ids.old rects.old) (enlisted (held_in count ids.old rects.old) id)) }
 {
-    focus_pass::interested_in_focus(nav, ids, rects, count, slot, id)
+    match focus_pass::interested_in_focus(nav, ids, rects, count, slot, id) {
+        Ok(r) => Interested {
+            refusal: NONE,
+            nav: r.nav,
+            count: r.count,
+            slot: r.slot,
+        },
+        Err(refused) => Interested {
+            refusal: u64::from(refused),
+            nav,
+            count,
+            slot,
+        },
+    }
 }
 
 // `focus_pass::ignore_focus`.
+#[tactic(auto, unfolding(focus_pass::specs::Pass::ignore_of))]
 #[unsafe(no_mangle)]
 pub extern "C" fn jaturemi_ignore_focus(
     nav: Nav,
@@ -59,12 +122,25 @@ pub extern "C" fn jaturemi_ignore_focus(
     count: usize,
     id: u64,
 ) -> Ignored
-    ensures { (result ≡ ignore_of nav (held_in count ids.old rects.old) count id) × (cache_in ids.new rects.new ≡ kept result.refusal (cache_in ids.old rects.old) (cache_on (cache_in ids.old rects.old) (without (held_in count ids.old rects.old) id))) }
+    ensures answer { let s = ignore_of nav (held_in count ids.old rects.old) count id in (result.refusal ≡ s.refusal) × (result.nav ≡ s.nav) × (result.count ≡ s.count) }
+    ensures cache { cache_in ids.new rects.new ≡ kept result.refusal (cache_in ids.old rects.old) (cache_on (cache_in ids.old rects.old) (without (held_in count ids.old rects.old) id)) }
 {
-    focus_pass::ignore_focus(nav, ids, rects, count, id)
+    match focus_pass::ignore_focus(nav, ids, rects, count, id) {
+        Ok(r) => Ignored {
+            refusal: NONE,
+            nav: r.nav,
+            count: r.count,
+        },
+        Err(refused) => Ignored {
+            refusal: u64::from(refused),
+            nav,
+            count,
+        },
+    }
 }
 
 // `focus_end::end_pass`.
+#[tactic(auto, unfolding(focus_end::specs::End::end_of))]
 #[unsafe(no_mangle)]
 pub extern "C" fn jaturemi_end_focus_pass(
     nav: Nav,
@@ -75,51 +151,63 @@ pub extern "C" fn jaturemi_end_focus_pass(
     corners: &[f32],
     limit: usize,
 ) -> Ended
-    ensures { (result ≡ end_of limit nav (held_in count ids.old rects.old) count (entries_in used.now corners.now)) × (cache_in ids.new rects.new ≡ kept result.refusal (cache_in ids.old rects.old) (cache_on (cache_in ids.old rects.old) (cache_ended nav (held_in count ids.old rects.old) (entries_in used.now corners.now)))) }
+    ensures answer { let s = end_of limit nav (held_in count ids.old rects.old) count (entries_in used.now corners.now) in (result.refusal ≡ s.refusal) × (result.nav ≡ s.nav) × (result.count ≡ s.count) }
+    ensures cache { cache_in ids.new rects.new ≡ kept result.refusal (cache_in ids.old rects.old) (cache_on (cache_in ids.old rects.old) (cache_ended nav (held_in count ids.old rects.old) (entries_in used.now corners.now))) }
 {
-    focus_end::end_pass(nav, ids, rects, count, used, corners, limit)
+    match focus_end::end_pass(nav, ids, rects, count, used, corners, limit) {
+        Ok(r) => Ended {
+            refusal: NONE,
+            nav: r.nav,
+            count: r.count,
+        },
+        Err(refused) => Ended {
+            refusal: u64::from(refused),
+            nav,
+            count,
+        },
+    }
 }
 
 // ---- the calls on the fields, by value
 
 #[unsafe(no_mangle)]
 pub extern "C" fn jaturemi_request_focus(nav: Nav, id: u64) -> Changed
-    ensures { result ≡ changed_to (id_refusal id) nav (focus_on nav id) }
+    ensures { (result.refusal ≡ id_refusal id) × (result.nav ≡ kept (id_refusal id) nav (focus_on nav id)) }
 {
-    focus_calls::request_focus(nav, id)
+    after(nav, focus_calls::request_focus(nav, id))
 }
 
 #[unsafe(no_mangle)]
 pub extern "C" fn jaturemi_request_focus_next_frame(nav: Nav, id: u64) -> Changed
-    ensures { result ≡ changed_to (id_refusal id) nav (with_next nav id) }
+    ensures { (result.refusal ≡ id_refusal id) × (result.nav ≡ kept (id_refusal id) nav (with_next nav id)) }
 {
-    focus_calls::request_focus_next_frame(nav, id)
+    after(nav, focus_calls::request_focus_next_frame(nav, id))
 }
 
 #[unsafe(no_mangle)]
 pub extern "C" fn jaturemi_surrender_focus(nav: Nav, id: u64) -> Changed
-    ensures { result ≡ changed_to (id_refusal id) nav (let_go nav id) }
+    ensures { (result.refusal ≡ id_refusal id) × (result.nav ≡ kept (id_refusal id) nav (let_go nav id)) }
 {
-    focus_calls::surrender_focus(nav, id)
+    after(nav, focus_calls::surrender_focus(nav, id))
 }
 
 #[unsafe(no_mangle)]
 pub extern "C" fn jaturemi_set_focus_lock_filter(nav: Nav, id: u64, filter: EventFilter) -> Changed
-    ensures { result ≡ changed_to (id_refusal id) nav (filtered_of nav id filter) }
+    ensures { (result.refusal ≡ id_refusal id) × (result.nav ≡ kept (id_refusal id) nav (filtered_of nav id filter)) }
 {
-    focus_calls::set_focus_lock_filter(nav, id, filter)
+    after(nav, focus_calls::set_focus_lock_filter(nav, id, filter))
 }
 
 #[unsafe(no_mangle)]
 pub extern "C" fn jaturemi_move_focus(nav: Nav, direction: u64) -> Changed
-    ensures { result ≡ changed_to (code_refusal direction last_direction) nav (with_direction nav direction) }
+    ensures { (result.refusal ≡ code_refusal direction last_direction) × (result.nav ≡ kept (code_refusal direction last_direction) nav (with_direction nav direction)) }
 {
-    focus_calls::move_focus(nav, direction)
+    after(nav, focus_calls::move_focus(nav, direction))
 }
 
 #[unsafe(no_mangle)]
 pub extern "C" fn jaturemi_set_modal_layer(nav: Nav, layer: LayerId) -> Changed
-    ensures { result ≡ changed_to (layer_refusal layer) nav (with_modals nav nav.top_modal_layer layer) }
+    ensures { (result.refusal ≡ layer_refusal layer) × (result.nav ≡ kept (layer_refusal layer) nav (with_modals nav nav.top_modal_layer layer)) }
 {
-    focus_calls::set_modal_layer(nav, layer)
+    after(nav, focus_calls::set_modal_layer(nav, layer))
 }

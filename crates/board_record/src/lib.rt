@@ -2,27 +2,57 @@
 #![tactic(auto)]
 
 ghost use Rattle.std.specs.Prelude.{◌≡◌};
+ghost use Rattle.std.specs.Result.{result_unwrap_or};
+ghost use Rattle.refusal.specs.Refusal.{number_in};
 ghost use Rattle.focus.specs.Focus.{begun_of, interested_of, ended_of};
 
-use focus::{Done, Events, Focus, Used};
+use focus::{Events, Focus, Used};
+use refusal::{NONE, Refusal};
+
+// The record after a call, and its refusal, 0 for none: a record for C, which has no Result.
+#[derive(Clone, Copy)]
+#[repr(C)]
+pub struct Done {
+    pub focus: Focus,
+    pub refusal: u64,
+}
+
+// What a call on this record answered; where it is refused the record is as it was.
+fn after(f: Focus, answer: Result<Focus, Refusal>) -> Done
+    ensures { (result.focus ≡ result_unwrap_or answer f) × (result.refusal ≡ number_in answer) }
+{
+    match answer {
+        Ok(focus) => Done {
+            focus,
+            refusal: NONE,
+        },
+        Err(refused) => Done {
+            focus: f,
+            refusal: u64::from(refused),
+        },
+    }
+}
 
 #[unsafe(no_mangle)]
 pub extern "C" fn jaturemi_begun(f: Focus, e: Events) -> Done
-    ensures { result ≡ begun_of f e }
+    ensures focus { result.focus ≡ (begun_of f e).focus }
+    ensures refusal { result.refusal ≡ (begun_of f e).refusal }
 {
-    focus::begun(f, e)
+    after(f, focus::begun(f, e))
 }
 
 #[unsafe(no_mangle)]
 pub extern "C" fn jaturemi_interested(f: Focus, id: u64) -> Done
-    ensures { result ≡ interested_of f id }
+    ensures focus { result.focus ≡ (interested_of f id).focus }
+    ensures refusal { result.refusal ≡ (interested_of f id).refusal }
 {
-    focus::interested(f, id)
+    after(f, focus::interested(f, id))
 }
 
 #[unsafe(no_mangle)]
 pub extern "C" fn jaturemi_ended(f: Focus, u: Used) -> Done
-    ensures { result ≡ ended_of f u }
+    ensures focus { result.focus ≡ (ended_of f u).focus }
+    ensures refusal { result.refusal ≡ (ended_of f u).refusal }
 {
-    focus::ended(f, u)
+    after(f, focus::ended(f, u))
 }
