@@ -14,7 +14,7 @@ use Rattle.area_maps.specs.Meaning.{entries_in}
 use Rattle.area_maps.proofs.Queries.{query_order, query_get}
 use Rattle.focus_rules.specs.declared.Nav.{Nav}
 use Rattle.focus_maps.specs.Egui as EguiFocus
-use Rattle.focus_maps.proofs.Means.{focused_means, is_means, focused_answer, layer_answer_lem}
+use Rattle.focus_maps.proofs.Means.{focused_means, is_means, focused_answer}
 use Rattle.memory_rules.specs.declared.Memory.{Memory}
 use Rattle.memory_rules.specs.State.{areas_of, focus_of, nav_of, popup_of}
 use Rattle.memory_rules.specs.Memory.{rect_in, area_rect, is_popup_open}
@@ -78,7 +78,7 @@ module _ (m : Memory) where
     pub layer_answers : LayerAnswers m e
     unfolding area_rect layers_of
     layer_answers = (
-      layer_answer_lem n.top_modal_layer,
+      refl,
       λ layer. ap (answer (layer_refusal layer)) (above_means m fit.sound.sound layer),
       λ layer. ap (answer (layer_refusal layer)) (allowed_means m fit.sound.sound layer),
       λ pos. hit_means m fit.sound.sound pos,

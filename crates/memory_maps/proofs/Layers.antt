@@ -2,7 +2,7 @@
 use Rattle.std.specs.Prelude.{◌≡◌, ℕ, min, Bool, true, false, cond, not, ◌&&◌, ◌||◌, eqb, ltb, List, [], ◌∷◌, take}
 use mathlib.Core.Path.{refl, sym, ap, ◌∙◌}
 use mathlib.Core.Bool.{true≢false}
-use Rattle.std.specs.Prelude.{None, Some}
+use Rattle.std.specs.Prelude.{Option, None, Some}
 use native.Mathlib.Omega.{arith}
 use lib.Seq.{take-take}
 use Rattle.emath.specs.declared.Pos2.{Pos2}
@@ -10,9 +10,7 @@ use Rattle.layers.specs.declared.LayerId.{LayerId}
 use Rattle.stacking.specs.Stacking.{Distinct, Orders}
 use Rattle.layer_rows.specs.Rows.{held_rows, rows_of, row_of, spot_in}
 use Rattle.layer_rows.proofs.Rows.{held_length}
-use Rattle.layer_queries.specs.declared.LayerAnswer.{LayerAnswer}
-use Rattle.layer_queries.specs.declared.LayerAnswer.TheVariants as LayerAnswer
-use Rattle.layer_queries.specs.Queries.{or_else, compared}
+use Rattle.layer_queries.specs.Queries.{compared}
 use Rattle.area_table.specs.Table.{Table, room_of, entries_of, entries_from, get_in}
 use Rattle.area_table.specs.Table as Table
 use Rattle.area_stack.specs.Stack.{layer_id_at as areasLayerIdAt}
@@ -25,8 +23,6 @@ use Rattle.area_maps.proofs.Sound.{Sound, SoundAreas}
 use Rattle.area_maps.proofs.Pushed.{no_pairs}
 use Rattle.area_maps.proofs.Queries.{query_compare, query_hit}
 use Rattle.focus_rules.specs.Rules.{layer_or_nothing}
-use Rattle.focus_maps.specs.Calls.{layer_option, layer_answer_of}
-use Rattle.focus_maps.proofs.Means.{layer_answer_lem}
 use Rattle.memory_rules.specs.declared.Memory.{Memory}
 use Rattle.memory_rules.specs.State.{areas_of, nav_of}
 use Rattle.memory_rules.specs.Memory.{emptied, is_below, is_above, is_allowed, stays_modal, unless_below, layer_id_at}
@@ -73,27 +69,6 @@ at_least m x y = go (eqb x.order y.order)
     go true = three (ltb (m.order_map x) (m.order_map y)) (ltb (m.order_map y) (m.order_map x))
     go false = three (ltb x.order y.order) (ltb y.order x.order)
 
--- ---- a search from the top answers a layer or nothing
-abbrev is_refused : LayerAnswer → Bool
-is_refused LayerAnswer.Nothing = false
-is_refused (LayerAnswer.Is layer) = false
-is_refused (LayerAnswer.Refused n) = true
-
-topmost_answers : (p : LayerId → Bool) (order : List LayerId) → is_refused (EguiAreas.topmost p order) ≡ false
-unfolding EguiAreas.topmost
-topmost_answers p [] = refl
-topmost_answers p (l ∷ order) = go (EguiAreas.topmost p order) (p l) (topmost_answers p order)
-  where
-    go : (a : LayerAnswer) (b : Bool) → is_refused a ≡ false → is_refused (or_else a (cond b (LayerAnswer.Is l) LayerAnswer.Nothing)) ≡ false
-    go LayerAnswer.Nothing true h = refl
-    go LayerAnswer.Nothing false h = refl
-    go (LayerAnswer.Is layer) b h = refl
-    go (LayerAnswer.Refused n) b h = h
-
-hit_answers : (m : EguiAreas.Areas) (pos : Pos2) → is_refused (EguiAreas.layer_id_at m pos) ≡ false
-unfolding EguiAreas.layer_id_at
-hit_answers m pos = topmost_answers _ _
-
 -- ---- the tests
 module _ (m : Memory) (s : Sound (areas_of m).placed (stack_of (areas_of m)) (entries_in (areas_of m))) where
   abbrev a : Areas
@@ -131,15 +106,10 @@ module _ (m : Memory) (s : Sound (areas_of m).placed (stack_of (areas_of m)) (en
       go true = refl
       go false = below_means layer current
 
-  pub hit_means : (pos : Pos2) → layer_id_at m pos ≡ layer_answer_of (Egui.layer_id_at (meaning_of m) pos)
+  pub hit_means : (pos : Pos2) → layer_id_at m pos ≡ Egui.layer_id_at (meaning_of m) pos
   unfolding layer_id_at areasLayerIdAt
-  hit_means pos = ap (unless_below m) (query_hit a.placed (stack_of a) (entries_in a) s (areas_in a) a.states refl pos) ∙ go (EguiAreas.layer_id_at (Areas.meaning_of a) pos) (hit_answers (Areas.meaning_of a) pos)
+  hit_means pos = ap (unless_below m) (query_hit a.placed (stack_of a) (entries_in a) s (areas_in a) a.states refl pos) ∙ go (EguiAreas.layer_id_at (Areas.meaning_of a) pos)
     where
-      or_modal : (b : Bool) (layer : LayerId) → cond b (LayerAnswer.Is layer) (layer_or_nothing (nav_of m).top_modal_layer) ≡ layer_answer_of (cond b (Some layer) (layer_option (nav_of m).top_modal_layer))
-      or_modal true layer = refl
-      or_modal false layer = layer_answer_lem (nav_of m).top_modal_layer
-
-      go : (l : LayerAnswer) → is_refused l ≡ false → unless_below m l ≡ layer_answer_of (Egui.unless_below (meaning_of m) l)
-      go LayerAnswer.Nothing h = refl
-      go (LayerAnswer.Is layer) h = rw (above_means layer) (or_modal (Egui.is_above_modal_layer (meaning_of m) layer) layer)
-      go (LayerAnswer.Refused n) h = absurd (true≢false h)
+      go : (l : Option LayerId) → unless_below m l ≡ Egui.unless_below (meaning_of m) l
+      go None = refl
+      go (Some layer) = ap (λ (b : Bool). cond b (Some layer) (layer_or_nothing (nav_of m).top_modal_layer)) (above_means layer)

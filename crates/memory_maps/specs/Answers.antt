@@ -7,7 +7,6 @@ use Rattle.layers.specs.Layers.{layer_refusal}
 use Rattle.layer_queries.specs.declared.Listing.TheVariants.{All}
 use Rattle.areas.specs.Areas.{layers_of}
 use Rattle.focus_rules.specs.Rules.{id_or_nothing, layer_or_nothing}
-use Rattle.focus_maps.specs.Calls.{layer_answer_of}
 use Rattle.memory_rules.specs.declared.Memory.{Memory}
 use Rattle.memory_rules.specs.State.{areas_of, nav_of}
 use Rattle.memory_rules.specs.Memory.{above_answer, allows_answer, layer_id_at, had_focus, has_focus, lost_focus, gained_focus, of_id, area_rect, is_popup_open, any_popup_open, position_answer}
@@ -27,10 +26,10 @@ FocusAnswers m e =
 
 abbrev pub LayerAnswers : Memory → Egui.Memory → Type 0
 LayerAnswers m e =
-    (layer_or_nothing (nav_of m).top_modal_layer ≡ layer_answer_of (Egui.top_modal_layer e))
+    (layer_or_nothing (nav_of m).top_modal_layer ≡ Egui.top_modal_layer e)
     × ((layer : LayerId) → above_answer m layer ≡ answer (layer_refusal layer) (Egui.is_above_modal_layer e layer))
     × ((layer : LayerId) → allows_answer m layer ≡ answer (layer_refusal layer) (Egui.allows_interaction e layer))
-    × ((pos : Pos2) → layer_id_at m pos ≡ layer_answer_of (Egui.layer_id_at e pos))
+    × ((pos : Pos2) → layer_id_at m pos ≡ Egui.layer_id_at e pos)
     × (layers_of (areas_of m) All ≡ Egui.layer_ids e)
     × ((id : ℕ) → area_rect m id ≡ answer (id_refusal id) (Egui.area_rect e id))
 

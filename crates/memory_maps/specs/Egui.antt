@@ -8,8 +8,6 @@ use Rattle.area.specs.Area.{rect_of}
 use Rattle.input.specs.declared.Event.{Event}
 use Rattle.input.specs.declared.EventFilter.{EventFilter}
 use Rattle.layers.specs.declared.LayerId.{LayerId}
-use Rattle.layer_queries.specs.declared.LayerAnswer.{LayerAnswer}
-use Rattle.layer_queries.specs.declared.LayerAnswer.TheVariants as LayerAnswer
 use Rattle.search.specs.declared.Candidate.{Candidate}
 use Rattle.area_maps.specs.Egui as Areas
 use Rattle.focus_maps.specs.Egui as Focus
@@ -120,10 +118,9 @@ module _ (m : Memory) where
   allows_interaction layer = is_above_modal_layer layer && allow_interaction layer.order
 
   -- from what the areas answer, which is a layer or nothing
-  abbrev pub unless_below : LayerAnswer → Option LayerId
-  unless_below LayerAnswer.Nothing = None
-  unless_below (LayerAnswer.Is layer) = cond (is_above_modal_layer layer) (Some layer) top_modal_layer
-  unless_below (LayerAnswer.Refused n) = None
+  abbrev pub unless_below : Option LayerId → Option LayerId
+  unless_below None = None
+  unless_below (Some layer) = cond (is_above_modal_layer layer) (Some layer) top_modal_layer
 
   abbrev pub layer_id_at : Pos2 → Option LayerId
   layer_id_at pos = unless_below (Areas.layer_id_at m.areas pos)

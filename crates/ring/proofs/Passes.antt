@@ -44,7 +44,7 @@ some_id id e z = let h : ◌≡◌ {A = ℕ} 1 0 = sym (ap (λ (k : ℕ). id_ref
 -- ---- the begin and the end
 began : (m : Memory) (events : List Event) → Takes m (Began events) → nav_of (after m (Began events)) ≡ nav_begun (nav_of m) (held m) events
 unfolding done_by Memory.begun_of begin_of
-began m events (e, s) = rw e (changed (begin_refusal events) (nav_of m) (nav_begun (nav_of m) (held m) events) e)
+began m events (e, s) = rw e
 
 ended : (m : Memory) (used : List Candidate) → Takes m (Ended used) → nav_of (after m (Ended used)) ≡ nav_ended (nav_of m) (held m) used
 unfolding done_by Memory.ended_of end_of

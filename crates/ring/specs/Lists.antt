@@ -4,7 +4,7 @@ use Rattle.input.specs.declared.Event.{Event}
 use Rattle.layers.specs.declared.LayerId.{LayerId}
 use Rattle.search.specs.declared.Candidate.{Candidate}
 use Rattle.memory_rules.specs.declared.Memory.{Memory}
-use Rattle.memory_rules.specs.declared.Done.{Done}
+use Rattle.memory_rules.specs.State.{Done}
 use Rattle.memory_rules.specs.Memory.{begun_of, interested_of, ended_of}
 
 -- ---- a call with its arguments: the events, the id and its layer, the used entries
