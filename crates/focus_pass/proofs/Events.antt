@@ -1,6 +1,6 @@
 -- The events that numbers are, one at a time, and each turn of the loop over them. Assumes nothing.
 use mathlib.Core.Path.{◌≡◌, refl, sym, ap, ◌∙◌}
-use mathlib.Core.Bool.{Bool, true, false, cond}
+use mathlib.Core.Bool.{Bool, true, false, cond, ◌||◌, true≢false}
 use mathlib.Core.List.{List, [], ◌∷◌, ◌++◌, append-nil}
 use Prim.Native.Nat.{ℕ, zero, suc, ◌+◌, ◌*◌, ◌/◌, ◌%◌, min, ◌<◌}
 use native.Mathlib.Omega.{arith}
@@ -8,7 +8,10 @@ use lib.Dec.{eqb}
 use lib.ListN.{length, get_or, take, drop, length-append, length-drop, drop_of_length-le}
 use lib.Seq.{get_or-take, get_or-drop, take_all, take-append_seam, drop-append_seam}
 use borrow.Author.Tests.{eqb-true, eqb-false}
-use Rattle.refusal.specs.Refusal.{lowest}
+use Rattle.std.specs.Prelude.{Result, is_err}
+use Rattle.refusal.specs.declared.Refusal.{Refusal}
+use Rattle.refusal.specs.Refusal.{none, number_in, lowest}
+use Rattle.refusal.proofs.Laws.{none_right, no_error}
 use Rattle.input.specs.declared.Event.{Event}
 use Rattle.input.specs.declared.EventFilter.{EventFilter}
 use Rattle.input.specs.Event.{event_refusal}
@@ -77,14 +80,20 @@ module _ (filter : EventFilter) (words row rest : List ℕ) (w : words ≡ row +
   unfolding worst_of
   worst_more k c m q r = rw (first, r, q)
 
+  -- no event so far is refused, and then not this one
+  pub worst_passed : (n : ℕ) (so_far t : Bool) (c : Result Unit Refusal) → (so_far ≡ false → worst_of none (events_in words) ≡ n) → number_in c ≡ event_refusal e → t ≡ is_err c → so_far || t ≡ false → worst_of none (events_in rest) ≡ n
+  worst_passed n false false c i q k f = worst_more none (number_in c) none q (none_right none (number_in c) (no_error c (sym k))) ∙ i refl
+  worst_passed n false true c i q k f = absurd (true≢false f)
+  worst_passed n true t c i q k f = absurd (true≢false f)
+
   pub heard_more : (so_far next : Heard) → next ≡ heard_of filter so_far e → heard_all filter next (events_in rest) ≡ heard_all filter so_far (events_in words)
   unfolding heard_all
   heard_more so_far next r = rw (first, r)
 
 module _ (words : List ℕ) (h : length words ≡ 0) where
-  none_left : events_in words ≡ []
+  no_event : events_in words ≡ []
   unfolding events_in count_in events_from
-  none_left = go words h
+  no_event = go words h
     where
       go : (words : List ℕ) → length words ≡ 0 → events_from words 0 (length words / 4 + cond (eqb (length words % 4) 0) 0 1) ≡ []
       go [] h = refl
@@ -92,8 +101,8 @@ module _ (words : List ℕ) (h : length words ≡ 0) where
 
   pub worst_all : (k : ℕ) → worst_of k (events_in words) ≡ k
   unfolding worst_of
-  worst_all k = rw none_left
+  worst_all k = rw no_event
 
   pub heard_through : (filter : EventFilter) (so_far : Heard) → heard_all filter so_far (events_in words) ≡ so_far
   unfolding heard_all
-  heard_through filter so_far = rw none_left
+  heard_through filter so_far = rw no_event
