@@ -1,7 +1,7 @@
 // Numbers on and off the grid, rectangles, and areas by their pivots.
 use crate::outcome::{Outcome, say};
-use area::{Align2, AreaState, PivotPos, Size};
-use emath::{Pos2, Rect};
+use area::{Align2, AreaState, PivotPos};
+use emath::{Pos2, Rect, Vec2};
 use std::io;
 
 fn corners(rt: &impl Print) -> io::Result<()> {
@@ -87,7 +87,7 @@ fn area_at(x: f32, code: u64, width: f32, y: f32) -> AreaState {
     AreaState {
         pivot_pos: PivotPos::At(x, y),
         pivot: Align2 { x: code, y: 2 },
-        size: Size::Of(width, 1.0),
+        size: Some(Vec2 { x: width, y: 1.0 }),
         interactable: true,
     }
 }

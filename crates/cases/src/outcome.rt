@@ -1,5 +1,5 @@
 // What a call comes to, and how it is told.
-use refusal::{NONE, Refusal};
+use refusal::Refusal;
 use std::io;
 
 #[derive(Clone, Copy)]
@@ -8,15 +8,6 @@ pub enum Outcome {
     Is(bool),
     Elsewhere,
     Refused(u64),
-}
-
-impl From<u64> for Outcome {
-    fn from(refusal: u64) -> Outcome {
-        match refusal {
-            NONE => Outcome::Taken,
-            n => Outcome::Refused(n),
-        }
-    }
 }
 
 impl From<Refusal> for Outcome {
@@ -53,14 +44,14 @@ pub fn say<T: Into<Outcome>>(rt: &impl Print, text: &str, outcome: T) -> io::Res
 pub fn say_list(
     rt: &impl Print,
     text: &str,
-    refusal: u64,
+    checked: Result<(), Refusal>,
     count: usize,
     of: &str,
     last: u64,
 ) -> io::Result<()> {
-    match refusal {
-        NONE => println!(rt; "{text}: taken, {count} {of}, the last is {last}"),
-        n => println!(rt; "{text}: no {n}, {count} {of}, the last is {last}"),
+    match checked.map_err(u64::from) {
+        Ok(()) => println!(rt; "{text}: taken, {count} {of}, the last is {last}"),
+        Err(n) => println!(rt; "{text}: no {n}, {count} {of}, the last is {last}"),
     }
 }
 

@@ -50,15 +50,7 @@ fn tell(
         return Ok(());
     };
     let last = last(&list.ids, list.count).unwrap_or(0);
-    let checked = inserted.map(|_| ());
-    say_list(
-        rt,
-        text,
-        refusal::number(checked),
-        list.count,
-        "listed",
-        last,
-    )
+    say_list(rt, text, inserted.map(|_| ()), list.count, "listed", last)
 }
 
 pub fn registry(rt: &impl Print) -> io::Result<()> {

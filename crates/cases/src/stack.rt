@@ -1,73 +1,97 @@
 // The stack at its limit of 64 layers, by value: what each call answers, and which layer is then on top.
 use crate::outcome::{last, say_list};
 use area::AreaState;
-use areas::{Areas, Changed};
+use areas::Areas;
 use layers::LayerId;
-use refusal::NONE;
+use refusal::Refusal;
 use std::io;
 
 fn layer(id: u64) -> LayerId {
     LayerId { order: 1, id }
 }
 
-fn show(areas: Areas, id: u64) -> Changed {
+fn show(areas: Areas, id: u64) -> Result<Areas, Refusal> {
     areas.set_state(layer(id), AreaState::new())
 }
 
-// Shows the layers from 1 to n; what the last call answers.
-fn filled(n: u64) -> Changed {
-    let mut now = Changed {
-        refusal: NONE,
-        areas: Areas::new(),
-    };
+// Shows the layers from 1 to n.
+fn filled(n: u64) -> Result<Areas, Refusal> {
+    let mut areas = Areas::new();
     for id in 0..n {
-        now = show(now.areas, id + 1);
+        areas = show(areas, id + 1)?;
     }
-    now
+    Ok(areas)
 }
 
-// What a call answers, and how many layers the stack then has.
-fn tell(rt: &impl Print, text: &str, changed: Changed) -> io::Result<()> {
-    let list = changed.areas.order();
+// What a call on `before` answers, and how many layers the stack then has.
+fn tell(
+    rt: &impl Print,
+    text: &str,
+    before: Areas,
+    called: Result<Areas, Refusal>,
+) -> io::Result<()> {
+    let list = called.unwrap_or(before).order();
     let last = last(&list.layers, list.count).map_or(0, |layer| layer.id);
-    say_list(rt, text, changed.refusal, list.count, "layers", last)
+    say_list(rt, text, called.map(|_| ()), list.count, "layers", last)
 }
 
 // The same after the end of the pass.
-fn tell_ended(rt: &impl Print, text: &str, changed: Changed) -> io::Result<()> {
-    let areas = changed.areas.end_pass();
-    tell(rt, text, Changed { areas, ..changed })
+fn tell_ended(
+    rt: &impl Print,
+    text: &str,
+    before: Areas,
+    called: Result<Areas, Refusal>,
+) -> io::Result<()> {
+    tell(rt, text, before, called.map(|areas| areas.end_pass()))
 }
 
 pub fn stack(rt: &impl Print) -> io::Result<()> {
-    let full = filled(64);
-    tell(rt, "the 64th layer", full)?;
-    let areas = full.areas;
-    tell(rt, "a 65th", show(areas, 65))?;
-    tell(rt, "the first once more", show(areas, 1))?;
-    tell(rt, "a 65th raised", areas.move_to_top(layer(65)))?;
-    tell_ended(rt, "the first raised, end", areas.move_to_top(layer(1)))?;
-    tell(rt, "a new child", areas.set_sublayer(layer(1), layer(65)))?;
-    tell(
-        rt,
-        "a new child of itself",
-        areas.set_sublayer(layer(65), layer(65)),
-    )?;
-    tell_ended(
-        rt,
-        "the first a child of the second, end",
-        areas.set_sublayer(layer(2), layer(1)),
-    )?;
-    let fewer = filled(63).areas;
+    tell(rt, "the 64th layer", Areas::new(), filled(64))?;
+    let (Ok(full), Ok(fewer)) = (filled(64), filled(63)) else {
+        return Ok(());
+    };
+    of_a_full_one(rt, full)?;
     tell(
         rt,
         "with 63, a pair of two new",
+        fewer,
         fewer.set_sublayer(layer(64), layer(65)),
     )?;
     tell(
         rt,
         "with 63, a new child of itself",
+        fewer,
         fewer.set_sublayer(layer(64), layer(64)),
     )?;
-    tell(rt, "after reset, a new one", show(areas.reset(), 65))
+    tell(rt, "after reset, a new one", full, show(full.reset(), 65))
+}
+
+fn of_a_full_one(rt: &impl Print, full: Areas) -> io::Result<()> {
+    tell(rt, "a 65th", full, show(full, 65))?;
+    tell(rt, "the first once more", full, show(full, 1))?;
+    tell(rt, "a 65th raised", full, full.move_to_top(layer(65)))?;
+    tell_ended(
+        rt,
+        "the first raised, end",
+        full,
+        full.move_to_top(layer(1)),
+    )?;
+    tell(
+        rt,
+        "a new child",
+        full,
+        full.set_sublayer(layer(1), layer(65)),
+    )?;
+    tell(
+        rt,
+        "a new child of itself",
+        full,
+        full.set_sublayer(layer(65), layer(65)),
+    )?;
+    tell_ended(
+        rt,
+        "the first a child of the second, end",
+        full,
+        full.set_sublayer(layer(2), layer(1)),
+    )
 }

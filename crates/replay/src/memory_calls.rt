@@ -1,17 +1,17 @@
 // The calls of `Memory` and those without state. None is a line that is no such call, and changes nothing.
 // A call takes the memory by value: it stands in a small function, since a function pays at entry for the size of its locals.
 use crate::answer::Answer;
+use crate::forms;
 use crate::forms::Put;
-use crate::library;
 use crate::words::Words;
 use layers::LayerId;
 use memory::popups;
-use memory_rules::{Done, Memory};
-use refusal::NONE;
+use memory_rules::Memory;
+use refusal::Refusal;
 
 // ---- calls that change the memory
 
-pub fn change<F: FnOnce(Memory) -> Done>(
+pub fn change<F: FnOnce(Memory) -> Result<Memory, Refusal>>(
     words: &Words,
     m: &mut Memory,
     answer: &mut Answer,
@@ -20,14 +20,18 @@ pub fn change<F: FnOnce(Memory) -> Done>(
     requires { F.IsAlwaysCallable call }
 {
     words.end()?;
-    let done = call(*m);
-    *m = done.memory;
-    library::done(done.refusal).put(answer);
+    match call(*m) {
+        Ok(after) => {
+            *m = after;
+            answer.word(b"ok");
+        }
+        Err(refusal) => forms::put_refusal(refusal, answer),
+    }
     Some(())
 }
 
 // One that takes an id.
-fn change_by_id<F: FnOnce(Memory, u64) -> Done>(
+fn change_by_id<F: FnOnce(Memory, u64) -> Result<Memory, Refusal>>(
     words: &mut Words,
     m: &mut Memory,
     answer: &mut Answer,
@@ -37,13 +41,6 @@ fn change_by_id<F: FnOnce(Memory, u64) -> Done>(
 {
     let id = words.number()?;
     change(words, m, answer, |m| call(m, id))
-}
-
-fn taken(memory: Memory) -> Done {
-    Done {
-        memory,
-        refusal: NONE,
-    }
 }
 
 pub fn call(name: &[u8], words: &mut Words, m: &mut Memory, answer: &mut Answer) -> Option<()> {
@@ -79,8 +76,8 @@ pub fn call(name: &[u8], words: &mut Words, m: &mut Memory, answer: &mut Answer)
             let layer = words.layer()?;
             change(words, m, answer, |m| memory::set_modal_layer(m, layer))
         }
-        b"stop_text_input" => change(words, m, answer, |m| taken(memory::stop_text_input(m))),
-        b"interrupt_ime" => change(words, m, answer, |m| taken(memory::interrupt_ime(m))),
+        b"stop_text_input" => change(words, m, answer, |m| Ok(memory::stop_text_input(m))),
+        b"interrupt_ime" => change(words, m, answer, |m| Ok(memory::interrupt_ime(m))),
         _ => change_areas(name, words, m, answer),
     }
 }
@@ -111,7 +108,7 @@ fn change_areas(name: &[u8], words: &mut Words, m: &mut Memory, answer: &mut Ans
                 |m| memory_areas::set_sublayer(m, parent, child),
             )
         }
-        b"reset_areas" => change(words, m, answer, |m| taken(memory_areas::reset_areas(m))),
+        b"reset_areas" => change(words, m, answer, |m| Ok(memory_areas::reset_areas(m))),
         _ => change_popup(name, words, m, answer),
     }
 }
@@ -121,20 +118,20 @@ fn change_popup(name: &[u8], words: &mut Words, m: &mut Memory, answer: &mut Ans
         b"open_popup" => change_by_id(words, m, answer, popups::open_popup),
         b"open_popup_at" => {
             let id = words.number()?;
-            let pos = library::popup_pos(words.held_pos()?);
+            let pos = words.held_pos()?;
             change(words, m, answer, |m| popups::open_popup_at(m, id, pos))
         }
         b"keep_popup_open" => change_by_id(words, m, answer, popups::keep_popup_open),
         b"close_popup" => change_by_id(words, m, answer, popups::close_popup),
         b"toggle_popup" => change_by_id(words, m, answer, popups::toggle_popup),
-        b"close_all_popups" => change(words, m, answer, |m| taken(popups::close_all_popups(m))),
+        b"close_all_popups" => change(words, m, answer, |m| Ok(popups::close_all_popups(m))),
         b"set_everything_is_visible" => {
             let visible = words.flag()?;
             change(
                 words,
                 m,
                 answer,
-                |m| taken(memory::set_everything_is_visible(m, visible)),
+                |m| Ok(memory::set_everything_is_visible(m, visible)),
             )
         }
         _ => query_focus(name, words, m, answer),

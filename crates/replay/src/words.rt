@@ -1,7 +1,7 @@
 // The words of a line, read one after the other by their kinds. None is a word that does not fit its kind.
 use crate::library;
 use area::{Align2, AreaState};
-use emath::{Pos2, Rect};
+use emath::{Pos2, Rect, Vec2};
 use input::{Event, EventFilter};
 use layers::LayerId;
 use widget_rect::WidgetRect;
@@ -95,7 +95,7 @@ impl<'a> Words<'a> {
                 x: self.number()?,
                 y: self.number()?,
             },
-            size: library::size(self.held_pos()?),
+            size: self.held_pos()?.map(|s| Vec2 { x: s.x, y: s.y }),
             interactable: self.flag()?,
         })
     }
