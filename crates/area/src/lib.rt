@@ -99,13 +99,6 @@ impl AreaState {
         refusal::both(codes, numbers)
     }
 
-    // By what number a call with this state is refused, 0 if it is taken.
-    pub fn refusal(self) -> u64
-        ensures { result ≡ state_refusal self }
-    {
-        refusal::number(self.check())
-    }
-
     // left_top_pos of any state, on the grid or not: for callers that hold a stored state.
     pub fn left_top_unchecked(self) -> Pos2
         ensures { result ≡ left_top self }

@@ -133,13 +133,6 @@ impl Event {
             Event::Pointer(..) | Event::Zoom(_) | Event::Other => Ok(()),
         }
     }
-
-    // By what number a call with this event is refused, 0 if it is taken.
-    pub fn refusal(self) -> u64
-        ensures { result ≡ event_refusal self }
-    {
-        refusal::number(self.check())
-    }
 }
 
 impl EventFilter {

@@ -1,8 +1,9 @@
 // layers.rs: a layer is an Order and an id.
 #![tactic(auto)]
 
-ghost use Rattle.std.specs.Prelude.{◌≡◌};
+ghost use Rattle.std.specs.Prelude.{◌≡◌, true};
 ghost use Rattle.refusal.specs.Refusal.{number_in};
+ghost use Rattle.layers.specs.declared.LayerId.{LayerId};
 ghost use Rattle.layers.specs.Layers.{is_layer, layer_refusal};
 
 use refusal::{LAST_ORDER, Refusal};
@@ -24,19 +25,9 @@ impl LayerId {
             refusal::check_code(self.order, LAST_ORDER),
         )
     }
-
-    // The number of its refusal, 0 if it is taken.
-    pub fn refusal(self) -> u64
-        ensures { result ≡ layer_refusal self }
-    {
-        refusal::number(self.check())
-    }
-
-    // Whether two layers are one.
-    #[tactic(auto, unfolding(crate::specs::Layers::is_layer))]
-    pub fn is(self, other: LayerId) -> bool
-        ensures { result ≡ is_layer self other }
-    {
-        self == other
-    }
 }
+
+// Two layers are one exactly if their Orders and their ids are: what the derived `==` says. There is nothing to run.
+pub fn one_layer()
+    ensures { (a b : LayerId) → (is_layer a b ≡ true → a ≡ b) × (a ≡ b → is_layer a b ≡ true) }
+{}

@@ -23,10 +23,11 @@ pub struct WidgetRect {
     pub visible: bool,
 }
 
+#[tactic(auto, unfolding(layers::specs::Layers::is_layer))]
 fn check_layers(call: LayerId, held: LayerId) -> Result<(), Refusal>
     ensures { number_in result ≡ other_layer_refusal call held }
 {
-    if call.is(held) {
+    if call == held {
         Ok(())
     } else {
         Err(Refusal::OtherLayer)

@@ -43,12 +43,12 @@ fn layer(words: &[u64], k: usize) -> LayerId
     }
 }
 
-#[tactic(auto, unfolding(crate::specs::Rows::is_in))]
+#[tactic(auto, unfolding(crate::specs::Rows::is_in, layers::specs::Layers::is_layer))]
 fn is_in(words: &[u64], k: usize, layer_id: LayerId) -> bool
     requires { 10 * k + 10 ≤ length words.now }
     ensures { result ≡ is_in words.now k layer_id }
 {
-    layer(words, k).is(layer_id)
+    layer(words, k) == layer_id
 }
 
 #[tactic(auto, unfolding(crate::specs::Rows::index_at))]

@@ -82,7 +82,7 @@ fn check_room(found: Option<usize>, n: usize, room: usize) -> Result<(), Refusal
 // ---- the calls
 
 // A known widget, whose record joined with the new one is w; the row where it then stands.
-#[tactic(auto, unfolding(crate::specs::Table::row_after, crate::specs::Table::put_half))]
+#[tactic(auto, unfolding(crate::specs::Table::row_after, crate::specs::Table::put_half, layers::specs::Layers::is_layer))]
 fn update(
     ids: &mut [u64],
     words: &mut [u64],
@@ -96,7 +96,7 @@ fn update(
     requires { (k < n) × (n ≤ length ids.old) × (10 * n ≤ length words.old) × (16 * n ≤ length rects.old) }
     ensures { (result ≡ row_after n k w new move_to_top) × (rows_in ids.new words.new rects.new ≡ update_of (rows_in ids.old words.old rects.old) n k w new move_to_top) }
 {
-    let in_its_list = w.layer_id.is(new.layer_id);
+    let in_its_list = w.layer_id == new.layer_id;
     if in_its_list && move_to_top {
         remove(ids, words, rects, n, k, w.layer_id);
         push(ids, words, rects, n - 1, w);

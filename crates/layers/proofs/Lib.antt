@@ -1,0 +1,2 @@
+-- A law of the derived equality.
+pub mod Equal
