@@ -1,4 +1,5 @@
 // `Areas` of memory/mod.rs as a record by value, over the functions on lent tables (crate `area_stack` and those below it).
+// Orders are codes, as document 01 has all kinds: any number may come, and one past the last is refused by 2.
 #![tactic(auto)]
 
 ghost use Rattle.std.specs.Prelude.{◌≡◌, IfOk};
@@ -21,7 +22,7 @@ use layer_rows::LayerRows;
 use layers::LayerId;
 use refusal::{LAYERS, Refusal};
 
-// How many layers are held, how many of them had a place at the last end of a pass, and how many areas have a state; the rows of the layers, and of the states.
+// How many layers are held, how many of them had a place at the last end of a pass, and how many areas have a state; the rows of the layers, and of the states. There is no heap: arrays with a count, which the functions in place are lent.
 #[derive(Clone, Copy)]
 pub struct Areas {
     pub count: usize,

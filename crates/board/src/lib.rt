@@ -1,5 +1,5 @@
 // What a C or Rust program on the board links against: numbers and slices in, a number out. A slice is two arguments in C, where it
-// starts and how many elements it has. Each function gives what the one that it calls gives.
+// starts and how many elements it has; kinds are codes, as document 01 has them. Each function gives what the one that it calls gives.
 #![tactic(auto)]
 
 ghost use Rattle.std.specs.Prelude.{◌≡◌, ℕ, ◌/◌, min, length, IfOk};

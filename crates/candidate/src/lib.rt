@@ -1,5 +1,5 @@
 // What find_widget_in_direction of memory/mod.rs says of one candidate: how far away it is on each axis, whether it lies in the cone of the
-// search, and its score. Any f32 goes in.
+// search, and its score. Any f32 goes in, and any direction: a code, as document 01 has all kinds.
 #![tactic(auto)]
 
 ghost use Rattle.std.specs.Prelude.{◌≡◌, false, ℕ, ◌≤◌, ℤ, pos, nat_abs};

@@ -19,6 +19,7 @@ fn matched(event: Event) -> Outcome {
     }
 }
 
+// A key and its modifiers by their codes.
 fn press(key: u64, modifiers: u64) -> Event {
     Event::Key {
         key,

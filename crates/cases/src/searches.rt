@@ -18,7 +18,7 @@ fn from(at: f32) -> Rect {
     }
 }
 
-// From the point (at, at), one field with its low corner at (x, y), so wide and so high.
+// From the point (at, at), one field with its low corner at (x, y), so wide and so high; the direction by its code.
 fn one(at: f32, x: f32, y: f32, side: f32, direction: u64) -> u64 {
     search::find(&[7], &[x, y, x + side, y + side], 9, from(at), direction)
 }

@@ -1,4 +1,5 @@
 // The queries of `Areas` (memory/mod.rs) that ask only the layers, on the rows of crate `layer_rows`.
+// Orders are codes, as document 01 has all kinds: any number may come, and one past the last is refused by 2.
 #![tactic(auto)]
 
 ghost use Rattle.std.specs.Prelude.{◌≡◌};

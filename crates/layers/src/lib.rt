@@ -1,4 +1,4 @@
-// layers.rs: a layer is an Order and an id.
+// layers.rs: a layer is an Order and an id. An Order is a code, as document 01 has all kinds: any number may come, and one past the last is refused by 2.
 #![tactic(auto)]
 
 ghost use Rattle.std.specs.Prelude.{◌≡◌, true};

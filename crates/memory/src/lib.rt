@@ -1,5 +1,5 @@
 // `Memory` of memory/mod.rs as a record by value, over the functions in place (crates `memory_core`, `memory_fields`, `memory_popups`): its passes, its focus and its flags. Crate `memory_areas`
-// has the calls on its layers and areas. A call that is refused hands back no record: the caller's is as it was.
+// has the calls on its layers and areas. Directions and Orders are codes, as document 01 has all kinds. A call that is refused hands back no record: the caller's is as it was.
 #![tactic(auto)]
 
 ghost use Rattle.std.specs.Prelude.{◌≡◌, true};

@@ -1,4 +1,5 @@
 // `Memory` of memory/mod.rs as a record by value: the calls on its layers and areas, those of `Areas` passed through.
+// An Order is a code, as document 01 has all kinds: any number may come, and one past the last is refused by 2.
 #![tactic(auto)]
 
 ghost use Rattle.std.specs.Prelude.{◌≡◌, IfOk};

@@ -88,7 +88,7 @@ pub fn is_above_modal_layer(fields: Fields, rows: &[u64], layer: LayerId) -> Res
     Ok(is_above(placed(fields, rows), fields.nav.top_modal_layer, layer))
 }
 
-// Order::allow_interaction: every Order does, in egui 0.37.0.
+// Order::allow_interaction: every Order does, in egui 0.37.0. An Order is a code, as document 01 has all kinds.
 fn order_allows(order: u64) -> bool
     ensures { result ≡ order_allows order }
 {

@@ -1,4 +1,5 @@
 // The calls of `Memory` (memory/mod.rs) that need none of its tables: the fields go in and come back by value. What the tables are is left open in each contract.
+// A direction is a code, as document 01 has all kinds: any number may come, and one past the last is refused by 2.
 #![tactic(auto)]
 
 ghost use Rattle.std.specs.Prelude.{◌≡◌, true, List, ℕ};

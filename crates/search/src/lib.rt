@@ -1,4 +1,4 @@
-// find_widget_in_direction of memory/mod.rs, once the cache is up to date: the best candidate of a lent table.
+// find_widget_in_direction of memory/mod.rs, once the cache is up to date: the best candidate of a lent table. A direction is a code, as document 01 has all kinds; id 0 is none, as it is there.
 #![tactic(auto)]
 
 ghost use Rattle.std.specs.Prelude.{◌≡◌, true, ℕ, List, []};

@@ -13,6 +13,7 @@ use refusal::{Refusal, WIDGETS};
 use widget_rect::WidgetRect;
 use widget_rows::WidgetTable;
 
+// How many widgets are held, and the tables of crate `widget_rows`. There is no heap: arrays with a count, which the functions in place are lent.
 #[derive(Clone, Copy)]
 pub struct WidgetRects {
     pub count: usize,
@@ -29,6 +30,7 @@ pub struct Listing {
     pub widgets: [WidgetRect; WIDGETS],
 }
 
+// There is no heap: an array with a count.
 #[derive(Clone, Copy)]
 pub struct Ids {
     pub count: usize,
