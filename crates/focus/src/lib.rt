@@ -10,6 +10,7 @@ use focus_rules::Nav;
 use input::EventFilter;
 use layers::LayerId;
 use refusal::{CACHED, EVENTS, Refusal, USED};
+use used::UsedEntries;
 
 // The fields, the entries of the cache and how many they are, and the place where an interest call looks first. There is no heap: arrays with a count, which C holds as one record.
 #[derive(Clone, Copy)]
@@ -79,8 +80,10 @@ pub fn focus_end_pass(f: &mut Focus, u: Used) -> Result<(), Refusal>
         &mut f.ids,
         &mut f.rects,
         f.count,
-        &u.ids[..u.count],
-        &u.corners,
+        UsedEntries {
+            ids: &u.ids[..u.count],
+            corners: &u.corners,
+        },
         USED,
     )?;
     f.nav = r.nav;
