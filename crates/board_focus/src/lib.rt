@@ -17,6 +17,7 @@ use focus_rules::Nav;
 use input::EventFilter;
 use layers::LayerId;
 use refusal::{NONE, Refusal};
+use used::UsedEntries;
 
 // A call's refusal, 0 for none, and the fields after it: records for C, which has no Result.
 #[derive(Clone, Copy)]
@@ -154,7 +155,8 @@ pub extern "C" fn jaturemi_end_focus_pass(
     ensures answer { let s = end_of limit nav (held_in count ids.old rects.old) count (entries_in used.now corners.now) in (result.refusal ≡ s.refusal) × (result.nav ≡ s.nav) × (result.count ≡ s.count) }
     ensures cache { cache_in ids.new rects.new ≡ kept result.refusal (cache_in ids.old rects.old) (cache_on (cache_in ids.old rects.old) (cache_ended nav (held_in count ids.old rects.old) (entries_in used.now corners.now))) }
 {
-    match focus_end::end_pass(nav, ids, rects, count, used, corners, limit) {
+    let used = UsedEntries { ids: used, corners };
+    match focus_end::end_pass(nav, ids, rects, count, used, limit) {
         Ok(r) => Ended {
             refusal: NONE,
             nav: r.nav,

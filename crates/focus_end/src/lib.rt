@@ -6,13 +6,14 @@ ghost use Rattle.std.specs.Prelude.{◌≡◌, false, ◌*◌, ◌≤◌, ◌<�
 ghost use Rattle.refusal.specs.Refusal.{number_in, kept};
 ghost use Rattle.search.specs.Search.{table_of};
 ghost use Rattle.focus_cache.specs.Cache.{held_in, has_id, cache_in, cache_on};
-ghost use Rattle.used.specs.Used.{entries_in, repeated};
+ghost use Rattle.used.specs.Used.{lent, repeated};
 ghost use Rattle.focus_end.specs.End.{rect_in, updated, refreshed, cache_ended, end_of};
 ghost use Rattle.focus_end.specs.Steps.{count_after, kept_in, searched_of};
 
 use emath::Rect;
 use focus_rules::Nav;
 use refusal::Refusal;
+use used::UsedEntries;
 
 // The fields after the end of a pass, and how many entries the cache holds.
 #[derive(Clone, Copy)]
@@ -36,21 +37,14 @@ struct Searched {
 }
 
 // Entry i is kept with its new rectangle, or left out.
-fn keep(
-    ids: &mut [u64],
-    rects: &mut [f32],
-    so_far: Kept,
-    i: usize,
-    used: &[u64],
-    corners: &[f32],
-) -> Kept
-    requires { (repeated used.now ≡ false) × (4 * length used.now ≤ length corners.now) × (i < length ids.old) × (so_far.count ≤ i) }
-    ensures { (result.count ≡ count_after so_far.count (rect_in (entries_in used.now corners.now) (get_or ids.old i 0))) × (cache_in ids.new rects.new ≡ kept_in (cache_in ids.old rects.old) so_far.count (get_or ids.old i 0) (rect_in (entries_in used.now corners.now) (get_or ids.old i 0))) }
+fn keep(ids: &mut [u64], rects: &mut [f32], so_far: Kept, i: usize, used: UsedEntries<'_>) -> Kept
+    requires { (repeated used.ids.now ≡ false) × (4 * length used.ids.now ≤ length used.corners.now) × (i < length ids.old) × (so_far.count ≤ i) }
+    ensures { (result.count ≡ count_after so_far.count (rect_in (lent used.entry) (get_or ids.old i 0))) × (cache_in ids.new rects.new ≡ kept_in (cache_in ids.old rects.old) so_far.count (get_or ids.old i 0) (rect_in (lent used.entry) (get_or ids.old i 0))) }
 {
     let id = ids[i];
-    match tables::find_after(used, so_far.next, id) {
+    match tables::find_after(used.ids, so_far.next, id) {
         Some(k) => {
-            let rect = focus_cache::rect_at(corners, k);
+            let rect = focus_cache::rect_at(used.corners, k);
             focus_cache::put(ids, rects, so_far.count, id, rect);
             Kept {
                 count: so_far.count + 1,
@@ -62,14 +56,14 @@ fn keep(
 }
 
 // `retain`: the entries that are used take their new rectangles, the others are left out.
-fn retain(ids: &mut [u64], rects: &mut [f32], count: usize, used: &[u64], corners: &[f32]) -> usize
-    requires { (repeated used.now ≡ false) × (4 * length used.now ≤ length corners.now) }
-    ensures { (result ≡ length (updated (entries_in used.now corners.now) (held_in count ids.old rects.old))) × (cache_in ids.new rects.new ≡ cache_on (cache_in ids.old rects.old) (updated (entries_in used.now corners.now) (held_in count ids.old rects.old))) }
+fn retain(ids: &mut [u64], rects: &mut [f32], count: usize, used: UsedEntries<'_>) -> usize
+    requires { (repeated used.ids.now ≡ false) × (4 * length used.ids.now ≤ length used.corners.now) }
+    ensures { (result ≡ length (updated (lent used.entry) (held_in count ids.old rects.old))) × (cache_in ids.new rects.new ≡ cache_on (cache_in ids.old rects.old) (updated (lent used.entry) (held_in count ids.old rects.old))) }
 {
     let n = focus_cache::held(ids, rects, count);
     let mut so_far = Kept { count: 0, next: 0 };
     for i in 0..n {
-        so_far = keep(ids, rects, so_far, i, used, corners);
+        so_far = keep(ids, rects, so_far, i, used);
     }
     so_far.count
 }
@@ -89,11 +83,10 @@ fn find_widget_in_direction(
     ids: &mut [u64],
     rects: &mut [f32],
     count: usize,
-    used: &[u64],
-    corners: &[f32],
+    used: UsedEntries<'_>,
 ) -> Searched
-    requires { (repeated used.now ≡ false) × (4 * length used.now ≤ length corners.now) }
-    ensures { (result ≡ searched_of nav (held_in count ids.old rects.old) (entries_in used.now corners.now)) × (cache_in ids.new rects.new ≡ cache_on (cache_in ids.old rects.old) (refreshed nav (held_in count ids.old rects.old) (entries_in used.now corners.now))) }
+    requires { (repeated used.ids.now ≡ false) × (4 * length used.ids.now ≤ length used.corners.now) }
+    ensures { (result ≡ searched_of nav (held_in count ids.old rects.old) (lent used.entry)) × (cache_in ids.new rects.new ≡ cache_on (cache_in ids.old rects.old) (refreshed nav (held_in count ids.old rects.old) (lent used.entry))) }
 {
     let Some(widget) = navigation::focused_widget(nav) else {
         return Searched {
@@ -101,7 +94,7 @@ fn find_widget_in_direction(
             count: focus_cache::held(ids, rects, count),
         };
     };
-    let n = retain(ids, rects, count, used, corners);
+    let n = retain(ids, rects, count, used);
     let Some(current) = rect_of(&ids[..n], &rects[..4 * n], widget.id) else {
         return Searched { found: 0, count: n };
     };
@@ -118,10 +111,10 @@ fn find_widget_in_direction(
 }
 
 #[tactic(auto, using(crate::proofs::Calls::among))]
-fn is_used(used: &[u64], corners: &[f32], id: u64) -> bool
-    ensures { result ≡ has_id (entries_in used.now corners.now) id }
+fn is_used(used: UsedEntries<'_>, id: u64) -> bool
+    ensures { result ≡ has_id (lent used.entry) id }
 {
-    used.contains(&id)
+    used.ids.contains(&id)
 }
 
 #[tactic(auto, unfolding(crate::specs::End::end_of, crate::specs::End::cache_ended, crate::specs::End::nav_ended), using(used::proofs::Entries::taken_unrepeated, used::proofs::Entries::taken_whole, focus_cache::proofs::Entries::on_held))]
@@ -130,23 +123,22 @@ pub fn end_pass(
     ids: &mut [u64],
     rects: &mut [f32],
     count: usize,
-    used: &[u64],
-    corners: &[f32],
+    used: UsedEntries<'_>,
     limit: usize,
 ) -> Result<Ended, Refusal>
-    ensures refusal { number_in result ≡ (end_of limit nav (held_in count ids.old rects.old) count (entries_in used.now corners.now)).refusal }
-    ensures after { IfOk result (λ r. let s = end_of limit nav (held_in count ids.old rects.old) count (entries_in used.now corners.now) in (r.nav ≡ s.nav) × (r.count ≡ s.count)) }
-    ensures cache { cache_in ids.new rects.new ≡ kept (end_of limit nav (held_in count ids.old rects.old) count (entries_in used.now corners.now)).refusal (cache_in ids.old rects.old) (cache_on (cache_in ids.old rects.old) (cache_ended nav (held_in count ids.old rects.old) (entries_in used.now corners.now))) }
+    ensures refusal { number_in result ≡ (end_of limit nav (held_in count ids.old rects.old) count (lent used.entry)).refusal }
+    ensures after { IfOk result (λ r. let s = end_of limit nav (held_in count ids.old rects.old) count (lent used.entry) in (r.nav ≡ s.nav) × (r.count ≡ s.count)) }
+    ensures cache { cache_in ids.new rects.new ≡ kept (end_of limit nav (held_in count ids.old rects.old) count (lent used.entry)).refusal (cache_in ids.old rects.old) (cache_on (cache_in ids.old rects.old) (cache_ended nav (held_in count ids.old rects.old) (lent used.entry))) }
 {
-    used::check(used, corners, limit)?;
+    used.check(limit)?;
     let (next, count) = if input::is_cardinal(nav.focus_direction) {
-        let s = find_widget_in_direction(nav, ids, rects, count, used, corners);
+        let s = find_widget_in_direction(nav, ids, rects, count, used);
         (navigation::found(nav, s.found), s.count)
     } else {
         (nav, focus_cache::held(ids, rects, count))
     };
     Ok(Ended {
-        nav: navigation::ended(next, is_used(used, corners, next.focused)),
+        nav: navigation::ended(next, is_used(used, next.focused)),
         count,
     })
 }

@@ -5,6 +5,7 @@ use Rattle.refusal.specs.Refusal.{none, bad_list, lowest, id_refusal}
 use Rattle.emath.specs.declared.Rect.{Rect}
 use Rattle.grid.specs.Grid.{rect_refusal}
 use Rattle.search.specs.declared.Candidate.{Candidate}
+use Rattle.used.specs.declared.UsedEntries.{UsedEntries}
 
 -- ---- the entries: an id and four corners each; a corner that is missing is NaN
 abbrev pub rect_from : List Float → ℕ → Rect
@@ -16,6 +17,10 @@ entries_from i (id ∷ ids) corners = record { id = id; rect = rect_from corners
 
 unfoldable pub entries_in : List ℕ → List Float → List Candidate
 entries_in ids corners = entries_from 0 ids corners
+
+-- the entries that are lent
+abbrev pub lent : UsedEntries → List Candidate
+lent u = entries_in u.ids.now u.corners.now
 
 abbrev pub ids_of : List Candidate → List ℕ
 ids_of entries = map (λ (e : Candidate). e.id) entries

@@ -4,7 +4,7 @@
 ghost use Rattle.std.specs.Prelude.{◌≡◌, ◌*◌};
 ghost use Rattle.refusal.specs.Refusal.{number_in, none};
 ghost use Rattle.grid.specs.Grid.{rect_refusal};
-ghost use Rattle.used.specs.Used.{rect_from, entries_in, repeated, worst_of, used_refusal};
+ghost use Rattle.used.specs.Used.{rect_from, lent, repeated, worst_of, used_refusal};
 
 use emath::{Pos2, Rect};
 use refusal::Refusal;
@@ -30,53 +30,62 @@ pub fn repeats(ids: &[u64]) -> bool
     false
 }
 
-// A rectangle of which a corner is missing is off the grid.
-#[tactic(auto, using(crate::proofs::Corners::corner_missing))]
-fn check_rect(corners: &[f32], i: usize) -> Result<(), Refusal>
-    ensures { number_in result ≡ rect_refusal (rect_from corners.now (4 * i)) }
-{
-    if i < corners.len() / 4 {
-        let at = 4 * i;
-        grid::rect(Rect {
-            min: Pos2 {
-                x: corners[at],
-                y: corners[at + 1],
-            },
-            max: Pos2 {
-                x: corners[at + 2],
-                y: corners[at + 3],
-            },
-        })
-    } else {
-        Err(Refusal::OffGrid)
-    }
+// The entries, lent together, as no call changes them.
+#[derive(Clone, Copy)]
+pub struct UsedEntries<'a> {
+    pub ids: &'a [u64],
+    pub corners: &'a [f32],
 }
 
-// The lowest refusal of an entry.
-#[tactic(auto, using(crate::proofs::Entries::worst_more, crate::proofs::Entries::worst_done))]
-fn check_entries(ids: &[u64], corners: &[f32]) -> Result<(), Refusal>
-    ensures { number_in result ≡ worst_of none (entries_in ids.now corners.now) }
-{
-    let mut checked = Ok(());
-    for (i, &id) in ids.iter().enumerate() {
-        let entry = refusal::both(refusal::check_id(id), check_rect(corners, i));
-        checked = refusal::both(checked, entry);
+impl UsedEntries<'_> {
+    // A rectangle of which a corner is missing is off the grid.
+    #[tactic(auto, using(crate::proofs::Corners::corner_missing))]
+    fn check_rect(self, i: usize) -> Result<(), Refusal>
+        ensures { number_in result ≡ rect_refusal (rect_from self.entry.corners.now (4 * i)) }
+    {
+        if i < self.corners.len() / 4 {
+            let at = 4 * i;
+            grid::rect(Rect {
+                min: Pos2 {
+                    x: self.corners[at],
+                    y: self.corners[at + 1],
+                },
+                max: Pos2 {
+                    x: self.corners[at + 2],
+                    y: self.corners[at + 3],
+                },
+            })
+        } else {
+            Err(Refusal::OffGrid)
+        }
     }
-    checked
-}
 
-// Whether a pass that ends with these entries is taken; too many are refused before anything else, and then the lowest refusal is told.
-#[tactic(auto, using(crate::proofs::Entries::too_many, crate::proofs::Entries::repeated_too, crate::proofs::Entries::only_entries))]
-pub fn check(ids: &[u64], corners: &[f32], limit: usize) -> Result<(), Refusal>
-    ensures { number_in result ≡ used_refusal limit (entries_in ids.now corners.now) }
-{
-    if limit < ids.len() {
-        return Err(Refusal::BadList);
+    // The lowest refusal of an entry.
+    #[tactic(auto, using(crate::proofs::Entries::worst_more, crate::proofs::Entries::worst_done))]
+    fn check_entries(self) -> Result<(), Refusal>
+        ensures { number_in result ≡ worst_of none (lent self.entry) }
+    {
+        let mut checked = Ok(());
+        for (i, &id) in self.ids.iter().enumerate() {
+            let entry = refusal::both(refusal::check_id(id), self.check_rect(i));
+            checked = refusal::both(checked, entry);
+        }
+        checked
     }
-    let entries = check_entries(ids, corners);
-    if repeats(ids) {
-        refusal::both(entries, Err(Refusal::BadList))
-    } else {
-        entries
+
+    // Whether a pass that ends with these entries is taken; too many are refused before anything else, and then the lowest refusal is told.
+    #[tactic(auto, using(crate::proofs::Entries::too_many, crate::proofs::Entries::repeated_too, crate::proofs::Entries::only_entries))]
+    pub fn check(self, limit: usize) -> Result<(), Refusal>
+        ensures { number_in result ≡ used_refusal limit (lent self.entry) }
+    {
+        if limit < self.ids.len() {
+            return Err(Refusal::BadList);
+        }
+        let entries = self.check_entries();
+        if repeats(self.ids) {
+            refusal::both(entries, Err(Refusal::BadList))
+        } else {
+            entries
+        }
     }
 }
