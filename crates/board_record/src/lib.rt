@@ -2,9 +2,12 @@
 #![tactic(auto)]
 
 ghost use Rattle.std.specs.Prelude.{◌≡◌};
+ghost use Rattle.std.specs.Result.{result_unwrap_or};
+ghost use Rattle.refusal.specs.Refusal.{number_in};
 ghost use Rattle.focus.specs.Focus.{begun_of, interested_of, ended_of};
 
 use focus::{Events, Focus, Used};
+use refusal::{NONE, Refusal};
 
 // The record after a call, and its refusal, 0 for none: a record for C, which has no Result.
 #[derive(Clone, Copy)]
@@ -14,35 +17,42 @@ pub struct Done {
     pub refusal: u64,
 }
 
-#[unsafe(no_mangle)]
-pub extern "C" fn jaturemi_begun(mut f: Focus, e: Events) -> Done
-    ensures { (result.focus ≡ (begun_of f e).focus) × (result.refusal ≡ (begun_of f e).refusal) }
+// What a call on this record answered; where it is refused the record is as it was.
+fn after(f: Focus, answer: Result<Focus, Refusal>) -> Done
+    ensures { (result.focus ≡ result_unwrap_or answer f) × (result.refusal ≡ number_in answer) }
 {
-    let checked = focus::focus_begin_pass(&mut f, e);
-    Done {
-        focus: f,
-        refusal: refusal::number(checked),
+    match answer {
+        Ok(focus) => Done {
+            focus,
+            refusal: NONE,
+        },
+        Err(refused) => Done {
+            focus: f,
+            refusal: u64::from(refused),
+        },
     }
 }
 
 #[unsafe(no_mangle)]
-pub extern "C" fn jaturemi_interested(mut f: Focus, id: u64) -> Done
-    ensures { (result.focus ≡ (interested_of f id).focus) × (result.refusal ≡ (interested_of f id).refusal) }
+pub extern "C" fn jaturemi_begun(f: Focus, e: Events) -> Done
+    ensures focus { result.focus ≡ (begun_of f e).focus }
+    ensures refusal { result.refusal ≡ (begun_of f e).refusal }
 {
-    let checked = focus::focus_interested_in_focus(&mut f, id);
-    Done {
-        focus: f,
-        refusal: refusal::number(checked),
-    }
+    after(f, focus::begun(f, e))
 }
 
 #[unsafe(no_mangle)]
-pub extern "C" fn jaturemi_ended(mut f: Focus, u: Used) -> Done
-    ensures { (result.focus ≡ (ended_of f u).focus) × (result.refusal ≡ (ended_of f u).refusal) }
+pub extern "C" fn jaturemi_interested(f: Focus, id: u64) -> Done
+    ensures focus { result.focus ≡ (interested_of f id).focus }
+    ensures refusal { result.refusal ≡ (interested_of f id).refusal }
 {
-    let checked = focus::focus_end_pass(&mut f, u);
-    Done {
-        focus: f,
-        refusal: refusal::number(checked),
-    }
+    after(f, focus::interested(f, id))
+}
+
+#[unsafe(no_mangle)]
+pub extern "C" fn jaturemi_ended(f: Focus, u: Used) -> Done
+    ensures focus { result.focus ≡ (ended_of f u).focus }
+    ensures refusal { result.refusal ≡ (ended_of f u).refusal }
+{
+    after(f, focus::ended(f, u))
 }

@@ -47,10 +47,6 @@ module _ (f : Focus) (e : Events) where
   unfolding begun_of begin_of begin_refusal
   too_many h = rw (count_length e.words 0 e.count, lt-ltb 64 e.count h)
 
-  pub too_many_left : 64 < e.count → f ≡ (begun_of f e).focus
-  unfolding begun_of begin_of begin_refusal
-  too_many_left h = rw (count_length e.words 0 e.count, lt-ltb 64 e.count h)
-
 pub lent_events : (e : Events) → length e.words ≡ 256 → e.count ≤ 64 → events_in (take (4 * e.count) e.words) ≡ events_of e
 lent_events e l h = lent e.words e.count (omega arith)
 
@@ -58,10 +54,6 @@ module _ (f : Focus) (u : Used) where
   pub too_many_used : 256 < u.count → bad_list ≡ (ended_of f u).refusal
   unfolding ended_of
   too_many_used h = rw (lt-ltb 256 u.count h)
-
-  pub too_many_used_left : 256 < u.count → f ≡ (ended_of f u).focus
-  unfolding ended_of
-  too_many_used_left h = rw (lt-ltb 256 u.count h)
 
   pub few_used : u.count ≤ 256 → ended_with f (used_of u) ≡ ended_of f u
   unfolding ended_of

@@ -1,4 +1,4 @@
-// `Focus` of memory/mod.rs as a record over the core in place (crates `focus_calls`, `focus_pass`, `focus_end`): begin, interest and end by forms that borrow it to write it, and by value, as the other methods.
+// `Focus` of memory/mod.rs as a record by value over the core in place (crates `focus_calls`, `focus_pass`, `focus_end`), and thin forms of begin, interest and end that borrow it to write it.
 #![tactic(auto)]
 
 ghost use Rattle.std.specs.Prelude.{◌≡◌, eqb, IfOk};
@@ -40,37 +40,39 @@ pub struct Used {
     pub count: usize,
 }
 
-// ---- begin, interest and end in place
+// ---- begin, interest and end by value
 
-#[tactic(auto, unfolding(crate::specs::Focus::begun_of), using(crate::proofs::Counted::too_many, crate::proofs::Counted::too_many_left, crate::proofs::Counted::lent_events))]
-pub fn focus_begin_pass(f: &mut Focus, e: Events) -> Result<(), Refusal>
-    ensures refusal { number_in result ≡ (begun_of f.old e).refusal }
-    ensures focus { f.new ≡ (begun_of f.old e).focus }
+#[tactic(auto, unfolding(crate::specs::Focus::begun_of), using(crate::proofs::Counted::too_many, crate::proofs::Counted::lent_events))]
+pub fn begun(mut f: Focus, e: Events) -> Result<Focus, Refusal>
+    ensures refusal { number_in result ≡ (begun_of f e).refusal }
+    ensures focus { IfOk result (λ g. g ≡ (begun_of f e).focus) }
 {
     if EVENTS < e.count {
         return Err(Refusal::BadList);
     }
     f.nav = focus_pass::begin_pass(f.nav, &f.ids, &f.rects, f.count, &e.words[..4 * e.count])?;
     f.slot = 0;
-    Ok(())
+    Ok(f)
 }
 
 #[tactic(auto, unfolding(crate::specs::Focus::interested_of))]
-pub fn focus_interested_in_focus(f: &mut Focus, id: u64) -> Result<(), Refusal>
-    ensures refusal { number_in result ≡ (interested_of f.old id).refusal }
-    ensures focus { f.new ≡ (interested_of f.old id).focus }
+pub fn interested(mut f: Focus, id: u64) -> Result<Focus, Refusal>
+    ensures refusal { number_in result ≡ (interested_of f id).refusal }
+    ensures focus { IfOk result (λ g. g ≡ (interested_of f id).focus) }
 {
     let r = focus_pass::interested_in_focus(f.nav, &mut f.ids, &mut f.rects, f.count, f.slot, id)?;
-    f.nav = r.nav;
-    f.count = r.count;
-    f.slot = r.slot;
-    Ok(())
+    Ok(Focus {
+        nav: r.nav,
+        count: r.count,
+        slot: r.slot,
+        ..f
+    })
 }
 
-#[tactic(auto, using(crate::proofs::Counted::too_many_used, crate::proofs::Counted::too_many_used_left, crate::proofs::Counted::few_used))]
-pub fn focus_end_pass(f: &mut Focus, u: Used) -> Result<(), Refusal>
-    ensures refusal { number_in result ≡ (ended_of f.old u).refusal }
-    ensures focus { f.new ≡ (ended_of f.old u).focus }
+#[tactic(auto, using(crate::proofs::Counted::too_many_used, crate::proofs::Counted::few_used))]
+pub fn ended(mut f: Focus, u: Used) -> Result<Focus, Refusal>
+    ensures refusal { number_in result ≡ (ended_of f u).refusal }
+    ensures focus { IfOk result (λ g. g ≡ (ended_of f u).focus) }
 {
     if USED < u.count {
         return Err(Refusal::BadList);
@@ -86,35 +88,37 @@ pub fn focus_end_pass(f: &mut Focus, u: Used) -> Result<(), Refusal>
         },
         USED,
     )?;
-    f.nav = r.nav;
-    f.count = r.count;
+    Ok(Focus {
+        nav: r.nav,
+        count: r.count,
+        ..f
+    })
+}
+
+// ---- their thin forms
+
+pub fn focus_begin_pass(f: &mut Focus, e: Events) -> Result<(), Refusal>
+    ensures refusal { number_in result ≡ (begun_of f.old e).refusal }
+    ensures focus { f.new ≡ (begun_of f.old e).focus }
+{
+    *f = begun(*f, e)?;
     Ok(())
 }
 
-// ---- and by value
-
-pub fn begun(mut f: Focus, e: Events) -> Result<Focus, Refusal>
-    ensures refusal { number_in result ≡ (begun_of f e).refusal }
-    ensures focus { IfOk result (λ g. g ≡ (begun_of f e).focus) }
+pub fn focus_interested_in_focus(f: &mut Focus, id: u64) -> Result<(), Refusal>
+    ensures refusal { number_in result ≡ (interested_of f.old id).refusal }
+    ensures focus { f.new ≡ (interested_of f.old id).focus }
 {
-    focus_begin_pass(&mut f, e)?;
-    Ok(f)
+    *f = interested(*f, id)?;
+    Ok(())
 }
 
-pub fn interested(mut f: Focus, id: u64) -> Result<Focus, Refusal>
-    ensures refusal { number_in result ≡ (interested_of f id).refusal }
-    ensures focus { IfOk result (λ g. g ≡ (interested_of f id).focus) }
+pub fn focus_end_pass(f: &mut Focus, u: Used) -> Result<(), Refusal>
+    ensures refusal { number_in result ≡ (ended_of f.old u).refusal }
+    ensures focus { f.new ≡ (ended_of f.old u).focus }
 {
-    focus_interested_in_focus(&mut f, id)?;
-    Ok(f)
-}
-
-pub fn ended(mut f: Focus, u: Used) -> Result<Focus, Refusal>
-    ensures refusal { number_in result ≡ (ended_of f u).refusal }
-    ensures focus { IfOk result (λ g. g ≡ (ended_of f u).focus) }
-{
-    focus_end_pass(&mut f, u)?;
-    Ok(f)
+    *f = ended(*f, u)?;
+    Ok(())
 }
 
 // ---- the other methods

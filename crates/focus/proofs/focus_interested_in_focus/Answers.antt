@@ -1,5 +1,5 @@
-use Rattle.focus.proofs.Stays.{interest_left}
+use Rattle.focus.proofs.Stays.{interested_refused}
 use Rattle.focus.proofs.focus_interested_in_focus.Goals as goal
 
-pub returns-in_err-r-clause-focus : goal.returns-in_err-r-clause-focus
-returns-in_err-r-clause-focus c = interest_left c.args.f.now _ _ c.in_err-r.was _ _ _ c.interested_in_focus.ensures.refusal c.interested_in_focus.ensures.cache
+pub returns-in_err-f-clause-focus : goal.returns-in_err-f-clause-focus
+returns-in_err-f-clause-focus c = interested_refused _ _ _ c.interested.ensures.refusal _ c.in_err-f.was
