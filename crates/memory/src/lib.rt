@@ -18,6 +18,7 @@ use input::EventFilter;
 use layers::LayerId;
 use memory_rules::{Fields, Memory, Viewport};
 use refusal::{EVENTS, Refusal, USED};
+use used::UsedEntries;
 
 pub fn new() -> Memory
     ensures { result ≡ new_memory }
@@ -144,8 +145,10 @@ pub fn end_pass(mut m: Memory, u: Used) -> Result<Memory, Refusal>
         &mut m.viewport.areas.rows,
         &mut m.viewport.focus.ids,
         &mut m.viewport.focus.rects,
-        &u.ids[..u.count],
-        &u.corners,
+        UsedEntries {
+            ids: &u.ids[..u.count],
+            corners: &u.corners,
+        },
     );
     done(m, ended)
 }

@@ -8,7 +8,7 @@ ghost use Rattle.layer_rows.specs.Rows.{lent};
 ghost use Rattle.layer_queries.specs.Queries.{compared_by};
 ghost use Rattle.focus_cache.specs.Cache.{Cache, cache_in};
 ghost use Rattle.focus_pass.specs.Events.{events_in};
-ghost use Rattle.used.specs.Used.{entries_in};
+ghost use Rattle.used.specs.Used.{lent as used_lent};
 ghost use Rattle.memory_rules.specs.State.{memory_of, done_of};
 ghost use Rattle.memory_rules.specs.Memory.{begun_of, ended_of, interested_of, ignored_of, above_answer, order_allows, is_allowed, allows_answer, modal_set};
 
@@ -17,6 +17,7 @@ use layer_rows::LayerRows;
 use layers::LayerId;
 use memory_rules::Fields;
 use refusal::{Refusal, USED};
+use used::UsedEntries;
 
 // ---- a pass
 
@@ -44,12 +45,11 @@ pub fn end_pass(
     rows: &mut [u64],
     ids: &mut [u64],
     rects: &mut [f32],
-    used: &[u64],
-    corners: &[f32],
+    used: UsedEntries,
 ) -> Result<Fields, Refusal>
-    ensures { (map : Table) → done_of fields result rows.new map (cache_in ids.new rects.new) ≡ ended_of (memory_of fields rows.old map (cache_in ids.old rects.old)) (entries_in used.now corners.now) }
+    ensures { (map : Table) → done_of fields result rows.new map (cache_in ids.new rects.new) ≡ ended_of (memory_of fields rows.old map (cache_in ids.old rects.old)) (used_lent used.entry) }
 {
-    let ended = focus_end::end_pass(fields.nav, ids, rects, fields.cached, used, corners, USED)?;
+    let ended = focus_end::end_pass(fields.nav, ids, rects, fields.cached, used, USED)?;
     let layers = layer_sort::end_pass(rows, fields.layers);
     Ok(Fields {
         nav: ended.nav,
