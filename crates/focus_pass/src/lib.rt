@@ -53,7 +53,7 @@ fn event_of(kind: u64, code: u64, id: u64, flags: u64, modifiers: u64) -> Event
             key: code,
             pressed: flags % 2 == 1,
             repeat: flags / 2 % 2 == 1,
-            modifiers: modifiers,
+            modifiers,
         },
         2 => Event::AccessKitFocus(id),
         _ => Event::Other,
