@@ -98,6 +98,7 @@ impl Areas {
         ensures refusal { number_in result ≡ (to_top_of self layer).refusal }
         ensures areas { IfOk result (λ a. a ≡ (to_top_of self layer).areas) }
     {
+        // Read before the rows are lent: a record's other field is not taken beside one lent array, here and below.
         let count = self.count;
         let count = layer_table::move_to_top(&mut self.rows, count, layer)?;
         Ok(Areas { count, ..self })

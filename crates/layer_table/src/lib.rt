@@ -80,7 +80,7 @@ pub fn move_to_top(rows: &mut [u64], count: usize, layer: LayerId) -> Result<usi
 
 // ---- `set_sublayer`
 
-// Whether some row's layer is a child of the layer.
+// Whether some row's layer is a child of the layer: a loop that ends at the first.
 fn some_child(rows: LayerRows, layer: LayerId) -> bool
     ensures { result ≡ some (is_child_row layer) (lent rows.entry) }
 {

@@ -72,11 +72,6 @@ id_refusal id = cond (eqb id 0) zero_id none
 abbrev pub code_refusal : ℕ → ℕ → ℕ
 code_refusal code last = cond (ltb last code) bad_code none
 
--- an answer that can be refused: the refusal where there is one, else the value
-abbrev pub answered : {A R : Type 0} → (A → R) → (ℕ → R) → ℕ → A → R
-answered is refused zero a = is a
-answered is refused (suc n) a = refused (suc n)
-
 -- the refusal of a number
 abbrev pub numbered : ℕ → Refusal
 numbered n =
@@ -85,7 +80,8 @@ numbered n =
 
 -- a call that is refused by a number, or answers a value
 abbrev pub answer : {A : Type 0} → ℕ → A → Result A Refusal
-answer n a = answered Ok (λ k. Err (numbered k)) n a
+answer zero a = Ok a
+answer (suc n) a = Err (numbered (suc n))
 
 -- what a call leaves: where it is refused what was there before
 abbrev pub kept : {A : Type 0} → ℕ → A → A → A
