@@ -39,7 +39,7 @@ pub struct UsedEntries<'a> {
 
 impl UsedEntries<'_> {
     // A rectangle of which a corner is missing is off the grid.
-    #[tactic(auto, using(crate::proofs::Corners::corner_missing, emath::proofs::Corners::row_rect))]
+    #[tactic(auto, using(crate::proofs::Corners::corner_missing))]
     fn check_rect(self, i: usize) -> Result<(), Refusal>
         ensures { number_in result ≡ rect_refusal (rect_from self.entry.corners.now (4 * i)) }
     {

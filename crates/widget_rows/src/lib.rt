@@ -44,7 +44,6 @@ fn index(words: &[u64], k: usize) -> u64
 }
 
 // A half of row k as a record.
-#[tactic(auto, unfolding(crate::specs::Rows::record_at), using(emath::proofs::Corners::row_rect))]
 fn read_half(ids: &[u64], words: &[u64], rects: &[f32], k: usize, half: usize) -> WidgetRect
     requires { (k < length ids.now) × (10 * k + 10 ≤ length words.now) × (16 * k + 16 ≤ length rects.now) × (half ≤ 1) }
     ensures { result ≡ record_at (rows_in ids.now words.now rects.now) k half }
