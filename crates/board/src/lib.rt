@@ -37,13 +37,7 @@ pub extern "C" fn jaturemi_find(
     ensures { result ≡ find_of (table_of ids.now rects.now) focused
         (record { min = record { x = left; y = top }; max = record { x = right; y = bottom } }) direction }
 {
-    let current = Rect {
-        min: Pos2 { x: left, y: top },
-        max: Pos2 {
-            x: right,
-            y: bottom,
-        },
-    };
+    let current = Rect::from([left, top, right, bottom]);
     search::find(ids, rects, focused, current, direction)
 }
 

@@ -55,10 +55,7 @@ fn sizes(rt: &impl Print) -> io::Result<()> {
 }
 
 fn between(x0: f32, y0: f32, x1: f32, y1: f32) -> Rect {
-    Rect {
-        min: Pos2 { x: x0, y: y0 },
-        max: Pos2 { x: x1, y: y1 },
-    }
+    Rect::from([x0, y0, x1, y1])
 }
 
 fn rects(rt: &impl Print) -> io::Result<()> {

@@ -1,5 +1,5 @@
 // The directional search at its limits: points, seen from a point, and what is found.
-use emath::{Pos2, Rect};
+use emath::Rect;
 use input::{DOWN, LEFT, NEXT, RIGHT, UP};
 use std::io;
 
@@ -11,11 +11,7 @@ fn tell(rt: &impl Print, text: &str, found: u64) -> io::Result<()> {
 }
 
 fn from(at: f32) -> Rect {
-    let corner = Pos2 { x: at, y: at };
-    Rect {
-        min: corner,
-        max: corner,
-    }
+    Rect::from([at; 4])
 }
 
 // From the point (at, at), one field with its low corner at (x, y), so wide and so high; the direction by its code.

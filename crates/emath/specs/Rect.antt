@@ -1,6 +1,6 @@
 -- emath's rect.rs, with gui_rounding.rs for Rect, in IEEE 754. Definitions only.
-use Rattle.std.specs.Prelude.{Bool, true, false, ◌&&◌}
-use Rattle.std.specs.Float.{inf, binary32}
+use Rattle.std.specs.Prelude.{Bool, true, false, ◌&&◌, List, [], ◌∷◌, Float, get_or}
+use Rattle.std.specs.Float.{nan, inf, binary32}
 use Rattle.std.specs.Float.Ieee.{add, le}
 use Rattle.emath.specs.declared.Pos2.{Pos2}
 use Rattle.emath.specs.declared.Vec2.{Vec2}
@@ -15,6 +15,13 @@ everything = record { min = record { x = inf true; y = inf true }; max = record 
 -- Rect::from_min_size: max is min + size
 abbrev pub from_min_size : Pos2 → Vec2 → Rect
 from_min_size p v = record { min = p; max = record { x = add binary32 p.x v.x; y = add binary32 p.y v.y } }
+
+-- the rectangle of four numbers: left, top, right, bottom; and the numbers of a rectangle
+abbrev pub from_corners : List Float → Rect
+from_corners c = record { min = record { x = get_or c 0 nan; y = get_or c 1 nan }; max = record { x = get_or c 2 nan; y = get_or c 3 nan } }
+
+abbrev pub to_corners : Rect → List Float
+to_corners r = r.min.x ∷ r.min.y ∷ r.max.x ∷ r.max.y ∷ []
 
 -- Rect::contains: edges included, and false where a NaN stands
 unfoldable pub contains_pos : Rect → Pos2 → Bool

@@ -6,7 +6,7 @@ ghost use Rattle.std.specs.Int.Signed.{lt_z};
 ghost use Rattle.floats.specs.Count.{at, count_of};
 ghost use Rattle.emath.specs.Pos2.{round_pos};
 ghost use Rattle.emath.specs.Range.{max_f, min_f, span_of, center_of, intersection_of};
-ghost use Rattle.emath.specs.Rect.{everything, from_min_size, contains_pos, x_range, y_range, round_rect};
+ghost use Rattle.emath.specs.Rect.{everything, from_min_size, from_corners, to_corners, contains_pos, x_range, y_range, round_rect};
 
 #[derive(Clone, Copy)]
 #[repr(C)]
@@ -156,5 +156,28 @@ impl Rect {
             min: self.min.round_ui(),
             max: self.max.round_ui(),
         }
+    }
+}
+
+impl From<[f32; 4]> for Rect {
+    ghost from_gives = { λ c r. r ≡ from_corners c };
+
+    // Four numbers as the tables hold them.
+    fn from([left, top, right, bottom]: [f32; 4]) -> Rect {
+        Rect {
+            min: Pos2 { x: left, y: top },
+            max: Pos2 {
+                x: right,
+                y: bottom,
+            },
+        }
+    }
+}
+
+impl From<Rect> for [f32; 4] {
+    ghost from_gives = { λ r c. c ≡ to_corners r };
+
+    fn from(r: Rect) -> [f32; 4] {
+        [r.min.x, r.min.y, r.max.x, r.max.y]
     }
 }

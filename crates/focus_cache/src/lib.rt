@@ -8,7 +8,7 @@ ghost use Rattle.std.specs.Prelude.{◌≡◌, length, IfOk};
 ghost use Rattle.refusal.specs.Refusal.{number_in, kept};
 ghost use Rattle.focus_cache.specs.Cache.{room_in, held_in, has_id, without, enlisted, cache_in, cache_on, rect_at, put_in, full_refusal, enlisted_of};
 
-use emath::{Pos2, Rect};
+use emath::Rect;
 use refusal::Refusal;
 
 // How many entries are held, and the place where the next call looks first.
@@ -49,8 +49,7 @@ pub fn put(ids: &mut [u64], rects: &mut [f32], k: usize, id: u64, rect: Rect)
 {
     if k < room(ids, rects) {
         ids[k] = id;
-        let row = [rect.min.x, rect.min.y, rect.max.x, rect.max.y];
-        tables::put(rects, 4 * k, &row);
+        tables::put(rects, 4 * k, &<[f32; 4]>::from(rect));
     }
 }
 
@@ -89,20 +88,9 @@ pub fn enlist(
 pub fn rect_at(rects: &[f32], k: usize) -> Rect
     ensures { result ≡ rect_at rects.now k }
 {
-    if k < rects.len() / 4 {
-        let at = 4 * k;
-        Rect {
-            min: Pos2 {
-                x: rects[at],
-                y: rects[at + 1],
-            },
-            max: Pos2 {
-                x: rects[at + 2],
-                y: rects[at + 3],
-            },
-        }
-    } else {
-        Rect::everything()
+    match rects.as_chunks::<4>().0.get(k) {
+        Some(&corners) => Rect::from(corners),
+        None => Rect::everything(),
     }
 }
 

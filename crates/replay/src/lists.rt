@@ -55,9 +55,7 @@ pub fn end(words: &mut Words, m: &mut Memory, answer: &mut Answer) -> Option<()>
         let rect = words.rect()?;
         if i < USED {
             used.ids[i] = id;
-            used.corners[4 * i..4 * i + 4].copy_from_slice(&[
-                rect.min.x, rect.min.y, rect.max.x, rect.max.y,
-            ]);
+            used.corners[4 * i..4 * i + 4].copy_from_slice(&<[f32; 4]>::from(rect));
         }
     }
     change(words, m, answer, |m| memory::end_pass(m, used))

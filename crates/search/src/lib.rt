@@ -8,7 +8,7 @@ ghost use Rattle.search.specs.Search.{table_of, goes_first, is_better, in_cone_o
 ghost use Rattle.search.specs.EguiWalk.{egui_finds, IsLeast, in_tie_order};
 ghost use Rattle.search.specs.Walk.{nothing_yet, step_of};
 
-use emath::{Pos2, Rect};
+use emath::Rect;
 
 #[derive(Clone, Copy)]
 pub struct Candidate {
@@ -85,20 +85,11 @@ pub fn find(ids: &[u64], rects: &[f32], focused: u64, current: Rect, direction: 
     ensures { result ≡ find_of (table_of ids.now rects.now) focused current direction }
 {
     let mut best = nothing();
-    for i in 0..ids.len().min(rects.len() / 4) {
-        let at = 4 * i;
+    let (corners, _) = rects.as_chunks::<4>();
+    for i in 0..ids.len().min(corners.len()) {
         let c = Candidate {
             id: ids[i],
-            rect: Rect {
-                min: Pos2 {
-                    x: rects[at],
-                    y: rects[at + 1],
-                },
-                max: Pos2 {
-                    x: rects[at + 2],
-                    y: rects[at + 3],
-                },
-            },
+            rect: Rect::from(corners[i]),
         };
         best = consider(best, c, focused, current, direction);
     }

@@ -6,7 +6,7 @@ ghost use Rattle.refusal.specs.Refusal.{number_in, none};
 ghost use Rattle.grid.specs.Grid.{rect_refusal};
 ghost use Rattle.used.specs.Used.{rect_from, lent, repeated, worst_of, used_refusal};
 
-use emath::{Pos2, Rect};
+use emath::Rect;
 use refusal::Refusal;
 
 // As many cells as a prime near 1,024 whose reciprocal fits in 64 bits, so that the remainder is quick.
@@ -43,20 +43,9 @@ impl UsedEntries<'_> {
     fn check_rect(self, i: usize) -> Result<(), Refusal>
         ensures { number_in result ≡ rect_refusal (rect_from self.entry.corners.now (4 * i)) }
     {
-        if i < self.corners.len() / 4 {
-            let at = 4 * i;
-            grid::rect(Rect {
-                min: Pos2 {
-                    x: self.corners[at],
-                    y: self.corners[at + 1],
-                },
-                max: Pos2 {
-                    x: self.corners[at + 2],
-                    y: self.corners[at + 3],
-                },
-            })
-        } else {
-            Err(Refusal::OffGrid)
+        match self.corners.as_chunks::<4>().0.get(i) {
+            Some(&corners) => grid::rect(Rect::from(corners)),
+            None => Err(Refusal::OffGrid),
         }
     }
 

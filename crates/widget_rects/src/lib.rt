@@ -7,7 +7,7 @@ ghost use Rattle.widget_rows.specs.Rows.{lent, list_of};
 ghost use Rattle.widget_queries.specs.Queries.{order_answer, widget_answer, contains_answer};
 ghost use Rattle.widget_rects.specs.WidgetRects.{table_of, new_rects, inserted_of, cleared_rects, blank_widget, listing, list_answer, ids_answer};
 
-use emath::{Pos2, Rect};
+use emath::Rect;
 use layers::LayerId;
 use refusal::{Refusal, WIDGETS};
 use widget_rect::WidgetRect;
@@ -40,11 +40,7 @@ pub struct Ids {
 fn blank() -> WidgetRect
     ensures { result ≡ blank_widget }
 {
-    let corner = Pos2 { x: 0.0, y: 0.0 };
-    let rect = Rect {
-        min: corner,
-        max: corner,
-    };
+    let rect = Rect::from([0.0; 4]);
     WidgetRect {
         id: 0,
         parent_id: 0,

@@ -9,29 +9,13 @@
 
 ghost use Rattle.std.specs.Prelude.{◌≡◌, ◌+◌, ◌-◌, ◌*◌, ◌/◌, min, ◌≤◌, ◌<◌, length, take};
 ghost use Rattle.tables.specs.Tables.{closed};
-ghost use Rattle.widget_rows.specs.Rows.{rows_in, lent, home_of, place_of, room_of, held_of, found_in, rect_at, layer_at, is_in, index_at, record_at, record_or, next_index, lowered_at, renumbered, entry_of, listed_in};
+ghost use Rattle.widget_rows.specs.Rows.{rows_in, lent, home_of, place_of, room_of, held_of, found_in, layer_at, is_in, index_at, record_at, record_or, next_index, lowered_at, renumbered, entry_of, listed_in};
 
-use emath::{Pos2, Rect};
+use emath::Rect;
 use layers::LayerId;
 use widget_rect::WidgetRect;
 
 // ---- rows
-
-fn rect(rects: &[f32], at: usize) -> Rect
-    requires { at + 4 ≤ length rects.now }
-    ensures { result ≡ rect_at rects.now at }
-{
-    Rect {
-        min: Pos2 {
-            x: rects[at],
-            y: rects[at + 1],
-        },
-        max: Pos2 {
-            x: rects[at + 2],
-            y: rects[at + 3],
-        },
-    }
-}
 
 fn layer(words: &[u64], k: usize) -> LayerId
     requires { 10 * k + 10 ≤ length words.now }
@@ -60,19 +44,19 @@ fn index(words: &[u64], k: usize) -> u64
 }
 
 // A half of row k as a record.
-#[tactic(auto, unfolding(crate::specs::Rows::record_at))]
 fn read_half(ids: &[u64], words: &[u64], rects: &[f32], k: usize, half: usize) -> WidgetRect
     requires { (k < length ids.now) × (10 * k + 10 ≤ length words.now) × (16 * k + 16 ≤ length rects.now) × (half ≤ 1) }
     ensures { result ≡ record_at (rows_in ids.now words.now rects.now) k half }
 {
     let look = 10 * k + 4 + 3 * half;
-    let edges = 16 * k + 8 * half;
+    let (rects, _) = rects.as_chunks::<4>();
+    let at = 4 * k + 2 * half;
     WidgetRect {
         id: ids[k],
         parent_id: words[10 * k],
         layer_id: layer(words, k),
-        rect: rect(rects, edges),
-        interact_rect: rect(rects, edges + 4),
+        rect: Rect::from(rects[at]),
+        interact_rect: Rect::from(rects[at + 1]),
         sense: words[look],
         enabled: words[look + 1] != 0,
         visible: words[look + 2] != 0,

@@ -15,16 +15,6 @@ use widget_rows::WidgetTable;
 
 // ---- the numbers of a row
 
-fn edges(w: WidgetRect) -> [f32; 8]
-    ensures { result ≡ edges_of w }
-{
-    let r = w.rect;
-    let i = w.interact_rect;
-    [
-        r.min.x, r.min.y, r.max.x, r.max.y, i.min.x, i.min.y, i.max.x, i.max.y,
-    ]
-}
-
 // Puts what the halves of row k do not share.
 fn put_half(words: &mut [u64], rects: &mut [f32], k: usize, half: usize, w: WidgetRect)
     requires { (10 * k + 10 ≤ length words.old) × (16 * k + 16 ≤ length rects.old) × (half ≤ 1) }
@@ -32,7 +22,8 @@ fn put_half(words: &mut [u64], rects: &mut [f32], k: usize, half: usize, w: Widg
 {
     let look = [w.sense, u64::from(w.enabled), u64::from(w.visible)];
     tables::put(words, 10 * k + 4 + 3 * half, &look);
-    tables::put(rects, 16 * k + 8 * half, &edges(w));
+    let edges = [w.rect, w.interact_rect].map(<[f32; 4]>::from);
+    tables::put(rects, 16 * k + 8 * half, edges.as_flattened());
 }
 
 // Puts what they share, apart from the id.
