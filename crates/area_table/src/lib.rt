@@ -1,7 +1,7 @@
 // `areas` of `Areas` (memory/mod.rs), a map from ids to area states, in place on lent tables of any length: a row for each id, in the order in which they came.
-// How many rows are held goes along by value; a call that changes the rows is lent the tables themselves, as C lends them.
+// How many rows are held stands beside the tables in `AreaTable`, which reads them; a call that changes the rows is lent the tables themselves, as C lends them.
 //     ids:    the id
-//     codes:  five numbers: whether it has a pivot position, the pivot's two codes, whether it has a size, whether it is interactable
+//     codes:  five numbers, flags among them since the tables are numbers and may hold any: whether it has a pivot position, the pivot's two codes, whether it has a size, whether it is interactable
 //     floats: four numbers: the pivot position and the size, 0 where it has none
 #![tactic(auto)]
 

@@ -3,6 +3,7 @@
 #![tactic(auto)]
 
 ghost use Rattle.std.specs.Prelude.{◌≡◌, IfOk};
+ghost use Rattle.std.specs.Ordering.{ordering_index};
 ghost use Rattle.refusal.specs.Refusal.{lowest, number_in, id_refusal, code_refusal, answer};
 ghost use Rattle.refusal.specs.Limits.{last_order};
 ghost use Rattle.layers.specs.Layers.{layer_refusal};
@@ -21,6 +22,7 @@ use layer_queries::Listing;
 use layer_rows::LayerRows;
 use layers::LayerId;
 use refusal::{LAYERS, Refusal};
+use std::cmp::Ordering;
 
 // How many layers are held, how many of them had a place at the last end of a pass, and how many areas have a state; the rows of the layers, and of the states. There is no heap: arrays with a count, which the functions in place are lent.
 #[derive(Clone, Copy)]
@@ -175,8 +177,9 @@ impl Areas {
         area_stack::is_interactable(self.table(), layer)
     }
 
-    pub fn compare_order(&self, a: LayerId, b: LayerId) -> Result<u64, Refusal>
-        ensures { result ≡ answer (lowest (layer_refusal a) (layer_refusal b)) (compared_by (held_rows self.now.placed self.now.rows) a b) }
+    pub fn compare_order(&self, a: LayerId, b: LayerId) -> Result<Ordering, Refusal>
+        ensures refusal { number_in result ≡ lowest (layer_refusal a) (layer_refusal b) }
+        ensures order { IfOk result (λ o. ordering_index o ≡ compared_by (held_rows self.now.placed self.now.rows) a b) }
     {
         let with_a_place = LayerRows {
             count: self.placed,

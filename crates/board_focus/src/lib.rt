@@ -1,5 +1,6 @@
 // The focus for C and Rust programs, as crate `board` has the rest: numbers, records of numbers and slices. A slice is two arguments in C, where it starts and how
-// many elements it has. Each function gives what the one that it calls gives.
+// many elements it has. Each function gives what the one that it calls gives;
+// each record that C gets has fields of its own, so that each is made by its own function.
 #![tactic(auto)]
 
 ghost use Rattle.std.specs.Prelude.{◌≡◌, IfOk};

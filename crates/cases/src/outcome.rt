@@ -7,12 +7,12 @@ pub enum Outcome {
     Taken,
     Is(bool),
     Elsewhere,
-    Refused(u64),
+    Refused(Refusal),
 }
 
 impl From<Refusal> for Outcome {
     fn from(refusal: Refusal) -> Outcome {
-        Outcome::Refused(u64::from(refusal))
+        Outcome::Refused(refusal)
     }
 }
 
@@ -36,7 +36,10 @@ pub fn say<T: Into<Outcome>>(rt: &impl Print, text: &str, outcome: T) -> io::Res
         Outcome::Taken => println!(rt; "{text}: ok"),
         Outcome::Is(is) => println!(rt; "{text}: {is}"),
         Outcome::Elsewhere => println!(rt; "{text}: elsewhere"),
-        Outcome::Refused(n) => println!(rt; "{text}: no {n}"),
+        Outcome::Refused(refusal) => {
+            let n = u64::from(refusal);
+            println!(rt; "{text}: no {n}")
+        }
     }
 }
 

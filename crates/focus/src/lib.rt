@@ -77,7 +77,7 @@ pub fn ended(mut f: Focus, u: Used) -> Result<Focus, Refusal>
     if USED < u.count {
         return Err(Refusal::BadList);
     }
-    let r = focus_end::end_pass(
+    let end = focus_end::end_pass(
         f.nav,
         &mut f.ids,
         &mut f.rects,
@@ -89,8 +89,8 @@ pub fn ended(mut f: Focus, u: Used) -> Result<Focus, Refusal>
         USED,
     )?;
     Ok(Focus {
-        nav: r.nav,
-        count: r.count,
+        nav: end.nav,
+        count: end.count,
         ..f
     })
 }
@@ -220,10 +220,16 @@ impl Focus {
         ensures refusal { number_in result ≡ (ignored_of self id).refusal }
         ensures focus { IfOk result (λ f. f ≡ (ignored_of self id).focus) }
     {
-        let r = focus_pass::ignore_focus(self.nav, &mut self.ids, &mut self.rects, self.count, id)?;
+        let left = focus_pass::ignore_focus(
+            self.nav,
+            &mut self.ids,
+            &mut self.rects,
+            self.count,
+            id,
+        )?;
         Ok(Focus {
-            nav: r.nav,
-            count: r.count,
+            nav: left.nav,
+            count: left.count,
             ..self
         })
     }

@@ -46,7 +46,7 @@ pub fn top_modal_layer(nav: Nav) -> Option<LayerId>
     ensures { result ≡ layer_or_nothing nav.top_modal_layer }
 {
     let layer = nav.top_modal_layer;
-    if layer.id == 0 { None } else { Some(layer) }
+    (layer.id != 0).then_some(layer)
 }
 
 // Focus::set_modal_layer.

@@ -1,5 +1,5 @@
 // `Focus::end_pass` and `find_widget_in_direction` of memory/mod.rs, in place: the used entries in lent slices (crate `used`), the cache in lent tables
-// (crate `focus_cache`).
+// (crate `focus_cache`). That no used id stands twice is asked of each function past the check, since a type for it would be made and taken apart at each.
 #![tactic(auto)]
 
 ghost use Rattle.std.specs.Prelude.{◌≡◌, false, ◌*◌, ◌≤◌, ◌<◌, length, get_or, IfOk};

@@ -33,7 +33,7 @@ pub struct Ignored {
 }
 
 // A code that is missing: past the last of every kind.
-const MISSING: u64 = 18446744073709551615;
+const MISSING: u64 = u64::MAX;
 
 // How many events the numbers are; one that is not whole counts.
 #[tactic(auto, unfolding(crate::specs::Events::count_in))]

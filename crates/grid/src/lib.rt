@@ -109,7 +109,7 @@ fn on_step(x: f32) -> bool
     (x + 393216.0) - 393216.0 == x
 }
 
-// Whether one axis of a rectangle is taken: both ends on the grid, in their order.
+// Whether one axis of a rectangle is taken: both ends on the grid, in their order. One test inside the other: as one `&&` the proof did not close.
 fn axis(low: f32, high: f32) -> bool
     ensures { result ≡ axis_taken low high }
 {
@@ -125,6 +125,7 @@ fn axis(low: f32, high: f32) -> bool
     false
 }
 
+// A rectangle that is taken is told by its two axes, which is quicker than the sum of its refusals.
 pub fn rect(r: Rect) -> Result<(), Refusal>
     ensures { number_in result ≡ rect_refusal r }
 {

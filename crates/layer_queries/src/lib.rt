@@ -2,9 +2,9 @@
 // Orders are codes, as document 01 has all kinds: any number may come, and one past the last is refused by 2.
 #![tactic(auto)]
 
-ghost use Rattle.std.specs.Prelude.{◌≡◌};
+ghost use Rattle.std.specs.Prelude.{◌≡◌, IfOk};
 ghost use Rattle.std.specs.Ordering.{ordering_index};
-ghost use Rattle.refusal.specs.Refusal.{lowest, code_refusal, answer};
+ghost use Rattle.refusal.specs.Refusal.{lowest, code_refusal, number_in, answer};
 ghost use Rattle.refusal.specs.Limits.{last_order};
 ghost use Rattle.layers.specs.Layers.{layer_refusal};
 ghost use Rattle.layer_rows.specs.Rows.{lent, row_of};
@@ -132,27 +132,18 @@ fn rank(rows: LayerRows, layer: LayerId) -> usize
     if k < rows.held() { k + 1 } else { 0 }
 }
 
-fn code(order: Ordering) -> u64
-    ensures { result ≡ ordering_index order }
-{
-    match order {
-        Ordering::Less => 0,
-        Ordering::Equal => 1,
-        Ordering::Greater => 2,
-    }
-}
-
-// `compare_order` of any two layers, 0 less, 1 equal, 2 greater as document 01 has it: it refuses none.
-pub fn by_place(rows: LayerRows, a: LayerId, b: LayerId) -> u64
-    ensures { result ≡ compared_by (lent rows.entry) a b }
+// `compare_order` of any two layers: it refuses none.
+pub fn by_place(rows: LayerRows, a: LayerId, b: LayerId) -> Ordering
+    ensures { ordering_index result ≡ compared_by (lent rows.entry) a b }
 {
     let by_rank = || rank(rows, a).cmp(&rank(rows, b));
-    code(a.order.cmp(&b.order).then_with(by_rank))
+    a.order.cmp(&b.order).then_with(by_rank)
 }
 
 // The rows that have a place are the first so many.
-pub fn compare_order(rows: LayerRows, a: LayerId, b: LayerId) -> Result<u64, Refusal>
-    ensures { result ≡ answer (lowest (layer_refusal a) (layer_refusal b)) (compared_by (lent rows.entry) a b) }
+pub fn compare_order(rows: LayerRows, a: LayerId, b: LayerId) -> Result<Ordering, Refusal>
+    ensures refusal { number_in result ≡ lowest (layer_refusal a) (layer_refusal b) }
+    ensures order { IfOk result (λ o. ordering_index o ≡ compared_by (lent rows.entry) a b) }
 {
     refusal::both(a.check(), b.check())?;
     Ok(by_place(rows, a, b))

@@ -1,5 +1,5 @@
-// The layers of `Areas` (memory/mod.rs) as rows of a lent table of any length: the stack, a row for each layer, the lowest first. How many rows are held goes
-// along by value; a call that changes the rows is lent the words themselves, as C lends them. A row is eight numbers:
+// The layers of `Areas` (memory/mod.rs) as rows of a lent table of any length: the stack, a row for each layer, the lowest first. How many rows are held stands
+// beside the words in `LayerRows`, which reads them; a call that changes the rows is lent the words themselves, as C lends them. A row is eight numbers:
 //     Order and id; whether it was shown this pass, shown the last pass, raised this pass; the id of its parent this pass, which has its Order, or 0;
 //     where its area's state is looked for first; a key, while rows are sorted
 // The table is the caller's and may hold any words, so the flags stay numbers: every word but 0 says yes, and a row that is put back keeps its word.

@@ -23,7 +23,8 @@ fn with_row(n: usize, k: usize) -> usize
     n.max(k + 1)
 }
 
-fn check_room(rows: LayerRows, n: usize) -> Result<(), Refusal>
+// Whether there is room for so many rows.
+pub fn check_room(rows: LayerRows, n: usize) -> Result<(), Refusal>
     ensures { number_in result ≡ full_refusal (room_in rows.entry.words.now) n }
 {
     if rows.room() < n {

@@ -1,5 +1,6 @@
 // `Memory` of memory/mod.rs as a record by value, over the functions in place (crates `memory_core`, `memory_fields`, `memory_popups`): its passes, its focus and its flags. Crate `memory_areas`
 // has the calls on its layers and areas. Directions and Orders are codes, as document 01 has all kinds. A call that is refused hands back no record: the caller's is as it was.
+// Each passes on, in a line, what the call in place of its name answers at the record's own fields and tables.
 #![tactic(auto)]
 
 ghost use Rattle.std.specs.Prelude.{◌≡◌, true};
@@ -268,10 +269,7 @@ pub fn stop_text_input(m: Memory) -> Memory
 pub fn interrupt_ime(m: Memory) -> Memory
     ensures { result ≡ with_ime m true }
 {
-    Memory {
-        requested_interrupt_ime: true,
-        ..m
-    }
+    with_fields(m, memory_fields::interrupt_ime(fields_of(m)))
 }
 
 pub fn should_interrupt_ime(m: Memory) -> bool
@@ -289,8 +287,8 @@ pub fn everything_is_visible(m: Memory) -> bool
 pub fn set_everything_is_visible(m: Memory, value: bool) -> Memory
     ensures { result ≡ with_everything m value }
 {
-    Memory {
-        everything_is_visible: value,
-        ..m
-    }
+    with_fields(
+        m,
+        memory_fields::set_everything_is_visible(fields_of(m), value),
+    )
 }

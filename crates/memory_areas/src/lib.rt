@@ -4,6 +4,7 @@
 #![tactic(auto)]
 
 ghost use Rattle.std.specs.Prelude.{◌≡◌, IfOk};
+ghost use Rattle.std.specs.Ordering.{ordering_index};
 ghost use Rattle.refusal.specs.Refusal.{number_in, lowest, id_refusal, code_refusal, answer};
 ghost use Rattle.refusal.specs.Limits.{last_order};
 ghost use Rattle.layers.specs.Layers.{layer_refusal};
@@ -23,6 +24,7 @@ use emath::{Pos2, Rect};
 use layers::LayerId;
 use memory_rules::{Memory, Viewport};
 use refusal::Refusal;
+use std::cmp::Ordering;
 
 // ---- calls that change them
 
@@ -114,8 +116,9 @@ pub fn is_interactable(m: Memory, layer: LayerId) -> Result<bool, Refusal>
     m.viewport.areas.is_interactable(layer)
 }
 
-pub fn compare_order(m: Memory, a: LayerId, b: LayerId) -> Result<u64, Refusal>
-    ensures { result ≡ answer (lowest (layer_refusal a) (layer_refusal b)) (compared_by (held_rows (areas_of m).placed (areas_of m).rows) a b) }
+pub fn compare_order(m: Memory, a: LayerId, b: LayerId) -> Result<Ordering, Refusal>
+    ensures refusal { number_in result ≡ lowest (layer_refusal a) (layer_refusal b) }
+    ensures order { IfOk result (λ o. ordering_index o ≡ compared_by (held_rows (areas_of m).placed (areas_of m).rows) a b) }
 {
     m.viewport.areas.compare_order(a, b)
 }

@@ -77,7 +77,7 @@ pub fn placed(fields: Fields, rows: &[u64]) -> LayerRows<'_>
 pub fn is_above(rows: LayerRows, modal: LayerId, layer: LayerId) -> bool
     ensures { result ≡ (eqb modal.id 0 || not (eqb (compared_by (lent rows.entry) layer modal) 0)) }
 {
-    modal.id == 0 || layer_queries::by_place(rows, layer, modal) != 0
+    modal.id == 0 || layer_queries::by_place(rows, layer, modal).is_ge()
 }
 
 #[tactic(auto, unfolding(memory_rules::specs::Memory::is_above))]

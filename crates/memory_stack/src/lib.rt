@@ -1,5 +1,5 @@
 // `Memory` of memory/mod.rs in place: the calls on its layers and areas. Its fields go by value; the rows of the layers and the map of the area states are lent tables of any length. A
-// contract leaves open what the tables are that its function does not get.
+// contract leaves open what the tables are that its function does not get. The tables are lent bare, since their counts are among the fields.
 #![tactic(auto)]
 
 ghost use Rattle.std.specs.Prelude.{◌≡◌, Some, List, ℕ};

@@ -1,4 +1,4 @@
-// The refusals of document 01 and the limits behind them, each under one name (those that code uses so far), and how refusals join.
+// The refusals of document 01 and the limits behind them, each under one name, and how refusals join.
 #![tactic(auto)]
 
 ghost use Rattle.std.specs.Prelude.{◌≡◌, ◌≤◌, ℕ};

@@ -65,12 +65,12 @@ fn consider(best: Scored, c: Candidate, focused: u64, current: Rect, direction: 
     }
 }
 
-// No candidate yet: id 0, and a score that every other is below.
+// No candidate yet: id 0, and a score that every other is below, as egui's loop starts.
 fn nothing() -> Scored
     ensures { result ≡ nothing_yet }
 {
     Scored {
-        score: f32::from_bits(0x7f80_0000),
+        score: f32::INFINITY,
         candidate: Candidate {
             id: 0,
             rect: Rect::everything(),

@@ -43,7 +43,7 @@ pub fn length(v: Vec2) -> f32
     ensures { result ≡ length_of v }
 {
     if grid::pivot_pos(v.x, v.y).is_err() {
-        return 0.0 / 0.0;
+        return f32::NAN;
     }
     let x = steps(v.x);
     let y = steps(v.y);
