@@ -77,9 +77,6 @@ abbrev pub Passed : List Row → LayerId → ℕ → Type 0
 Passed rows layer k = (k ≤ length rows) × (spot_in rows layer ≡ k + spot_in (drop k rows) layer)
 
 module _ (count : ℕ) (w : List ℕ) (layer : LayerId) where
-  pub none_passed : Passed (held_rows count w) layer 0
-  none_passed = (omega arith, omega arith)
-
   module _ (n k : ℕ) (e : n ≡ min count (length w / 8)) (p : Passed (held_rows count w) layer k) where
     pub spot_over : n ≤ k → n ≡ spot_in (held_rows count w) layer
     spot_over h =

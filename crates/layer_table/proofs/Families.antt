@@ -20,9 +20,6 @@ module _ (p : Row → Bool) (count : ℕ) (w : List ℕ) where
   abbrev rows : List Row
   rows = held_rows count w
 
-  pub none_passed : Passed p (held_rows count w) 0
-  none_passed = (omega arith, refl)
-
   module _ (n k : ℕ) (e : n ≡ min count (length w / 8)) (a : Passed p (held_rows count w) k) where
     pub none_found : n ≤ k → false ≡ some p (held_rows count w)
     unfolding some

@@ -1,7 +1,7 @@
 -- The lists that begin and end a pass, each an array with a count: a count past the array's end is too many, and else the list is that of the part that is lent. Assumes nothing.
-use mathlib.Core.Path.{◌≡◌, ap}
+use mathlib.Core.Path.{◌≡◌}
 use Prim.Native.Nat.{◌≤◌, ◌<◌}
-use lib.ListN.{length, length-replicate}
+use lib.ListN.{length-replicate}
 use borrow.Author.Tests.{lt-ltb, le-ltb}
 use Rattle.refusal.specs.declared.Refusal.TheVariants.{BadList}
 use Rattle.refusal.specs.Refusal.{bad_list}

@@ -1,5 +1,5 @@
 -- Laws of end_pass, from what the focus, the layers and the popup gave. Assumes nothing.
-use mathlib.Core.Path.{◌≡◌, ap, ◌∙◌}
+use mathlib.Core.Path.{◌≡◌}
 use mathlib.Core.List.{List}
 use Prim.Native.Nat.{ℕ, ◌/◌, min}
 use lib.Ieee.{Float}

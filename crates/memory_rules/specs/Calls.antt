@@ -1,5 +1,5 @@
 -- The calls that change Memory, with their arguments, and what each leaves. Definitions only.
-use Rattle.std.specs.Prelude.{ℕ, Bool, Option, true, List, [], ◌∷◌}
+use Rattle.std.specs.Prelude.{ℕ, Bool, Option, true, List}
 use Rattle.refusal.specs.Refusal.{none}
 use Rattle.area.specs.declared.AreaState.{AreaState}
 use Rattle.input.specs.declared.Event.{Event}

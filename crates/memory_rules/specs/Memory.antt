@@ -1,7 +1,7 @@
 -- Memory (memory/mod.rs, lines 786 to 1187): what each call leaves and answers, in the Rust's order but for a definition that another needs, by the definitions of its Focus and Areas, with document 01's refusals. Definitions only.
 use Rattle.std.specs.Prelude.{Option, None, Some, Result, ℕ, Bool, true, false, not, cond, ◌&&◌, ◌||◌, List, eqb, ltb, replicate}
 use Rattle.refusal.specs.declared.Refusal.{Refusal}
-use Rattle.refusal.specs.Refusal.{none, lowest, id_refusal, answer, kept}
+use Rattle.refusal.specs.Refusal.{none, lowest, id_refusal, answer}
 use Rattle.refusal.specs.Limits.{used as usedLimit}
 use Rattle.emath.specs.declared.Pos2.{Pos2}
 use Rattle.emath.specs.declared.Rect.{Rect}
@@ -22,7 +22,6 @@ use Rattle.area_stack.specs.Stack.{layer_id_at as areasLayerIdAt}
 use Rattle.search.specs.declared.Candidate.{Candidate}
 use Rattle.focus_rules.specs.declared.Nav.{Nav}
 use Rattle.focus_rules.specs.Rules.{focus_on, layer_or_nothing}
-use Rattle.focus.specs.declared.Focus.{Focus}
 use Rattle.focus.specs.declared.Used.{Used}
 use Rattle.focus.specs.Focus.{Done as FocusDone}
 use Rattle.focus.specs.Focus as Focus

@@ -1,5 +1,5 @@
 -- Memory (memory/mod.rs, lines 31 to 125) with one viewport: its parts, and the record of them that the fields and the lent tables are. Definitions only.
-use Rattle.std.specs.Prelude.{ℕ, Bool, false, List, Option, None, Result, Ok, Err}
+use Rattle.std.specs.Prelude.{ℕ, Bool, false, List, None, Result, Ok, Err}
 use Rattle.refusal.specs.declared.Refusal.{Refusal}
 use Rattle.refusal.specs.Refusal.{none, number_of, kept}
 use Rattle.areas.specs.declared.Areas.{Areas}
@@ -10,7 +10,6 @@ use Rattle.focus_cache.specs.Cache.{Cache}
 use Rattle.focus.specs.declared.Focus.{Focus}
 use Rattle.focus.specs.Focus.{new_focus}
 use Rattle.memory_rules.specs.declared.Popup.{Popup}
-use Rattle.memory_rules.specs.declared.Viewport.{Viewport}
 use Rattle.memory_rules.specs.declared.Memory.{Memory}
 use Rattle.memory_rules.specs.declared.Fields.{Fields}
 

@@ -1,5 +1,5 @@
 -- Laws of `lowest`: each way it is found, and what it means that nothing is refused; and of what a check or a call answers. Assumes nothing.
-use mathlib.Core.Path.{◌≡◌, refl, sym, ap, ◌∙◌}
+use mathlib.Core.Path.{◌≡◌, refl, sym}
 use Prim.Native.Nat.{ℕ, zero, suc, ◌≤◌, ◌<◌}
 use native.Mathlib.Omega.{arith}
 use Rattle.refusal.specs.Refusal.{bad_family, number_of, number_in, lowest, answer}

@@ -65,9 +65,6 @@ module _ {A : Type 0} where
     none_written now e = record { list = []; split = refl; here = rw (take-nil (length out)) e; count = refl }
 
     module _ (rest now : List A) (n : ℕ) (h : Written out whole rest now n) where
-      pub same_long : length now ≡ length out
-      same_long = rw h.here (written_length out h.list)
-
       pub write : (x : A) (left : List A) → rest ≡ x ∷ left → Written out whole left (set now n x) (n + 1)
       write x left e = record { list = h.list ++ x ∷ []; split = rw (append_snoc h.list x left, ← e) h.split; here = rw (h.here, h.count) (one_more_lem out h.list x); count = rw length-append (omega (arith, h.count)) }
 

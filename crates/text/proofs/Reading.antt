@@ -140,12 +140,6 @@ module _ (s : List ℕ) (at : ℕ) (r : Option (ℕ × ℕ)) (e : r ≡ value_at
     number_more k b o q = taken (starts k ∙ ap not (rw o at q))
 
 -- ---- a space and a number: p is the place after the space
-pub argument_none : (s : List ℕ) (at : ℕ) (p : Option ℕ) → p ≡ skip_at s at 32 → p ≡ None → None ≡ argument_at s at
-argument_none s at p e h = ap (number_from s) (sym h ∙ e)
-
-pub argument_some : (s : List ℕ) (at : ℕ) (p : Option ℕ) (i : ℕ) (r : Option (ℕ × ℕ)) → p ≡ skip_at s at 32 → p ≡ Some i → r ≡ number_at s i → r ≡ argument_at s at
-argument_some s at p i r e h k = k ∙ ap (number_from s) (sym h ∙ e)
-
 -- ---- a word
 eqb_sym : (b c : ℕ) → eqb b c ≡ eqb c b
 eqb_sym b c = go (eqb c b) refl

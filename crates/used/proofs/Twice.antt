@@ -77,9 +77,6 @@ pub record Shown (ids cells : List ℕ) (i : ℕ) : Type 0 where
   pub shown : (j : ℕ) → j < i → joined cells (get_or ids j 0) ≡ cell_in cells (get_or ids j 0)
   pub all_new : AllNew ids i
 
-pub none_shown : (ids : List ℕ) → Shown ids (replicate 1013 0) 0
-none_shown ids = record { full = refl; shown = λ j l. absurd (not-suc-le-zero l); all_new = λ j l. absurd (not-suc-le-zero l) }
-
 module _ (ids : List ℕ) (i : ℕ) where
   -- what `contains` says of the ids before i
   module _ (t : Bool) (e : IsAnyAnswer (λ y b. eqb y (get_or ids i 0) ≡ b) (take i ids) t) where

@@ -84,16 +84,8 @@ unfolding renumbered_rows
 rows_length zero layer tail = refl
 rows_length (suc n) layer tail = simp (length-append, length-take, rows_length n layer (drop 10 tail), length-drop, lowered_length tail layer 0) (omega arith)
 
-pub renumbered_length : (layer : LayerId) (tail : List ℕ) → length (renumbered layer tail) ≡ length tail
-unfolding renumbered
-renumbered_length layer tail = rows_length (length tail / 10) layer tail
-
--- nothing is numbered anew yet, and all is
+-- all is numbered anew
 module _ (layer : LayerId) (tail : List ℕ) where
-  pub renumber_none : take (10 * 0) tail ++ renumbered_rows (length tail / 10 - 0) layer (drop (10 * 0) tail) ≡ renumbered layer tail
-  unfolding renumbered
-  renumber_none = rw (sub-zero (length tail / 10))
-
   pub renumber_end : (k m : ℕ) → m ≡ 0 → take (10 * k) tail ++ renumbered_rows m layer (drop (10 * k) tail) ≡ tail
   unfolding renumbered_rows
   renumber_end k m e = rw (e, take-append-drop (10 * k) tail)
