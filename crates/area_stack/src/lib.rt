@@ -30,7 +30,7 @@ pub struct Counts {
 fn check_room(k: usize, room: usize) -> Result<(), Refusal>
     ensures { number_in result ≡ room_refusal k room }
 {
-    if k < room { Ok(()) } else { Err(Refusal::Full) }
+    refusal::check(k < room, Refusal::Full)
 }
 
 fn shown(r: Row, area: u64) -> Row

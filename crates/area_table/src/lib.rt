@@ -19,21 +19,20 @@ fn read(codes: &[u64], floats: &[f32], k: usize) -> AreaState
     requires { (5 * k + 5 ≤ length codes.now) × (4 * k + 4 ≤ length floats.now) }
     ensures { result ≡ state_in codes.now floats.now k }
 {
+    let [placed, x, y, sized, interactable] = codes.as_chunks::<5>().0[k];
+    let [left, top, width, height] = floats.as_chunks::<4>().0[k];
     AreaState {
-        pivot_pos: if codes[5 * k] == 0 {
+        pivot_pos: if placed == 0 {
             PivotPos::Absent
         } else {
-            PivotPos::At(floats[4 * k], floats[4 * k + 1])
+            PivotPos::At(left, top)
         },
-        pivot: Align2 {
-            x: codes[5 * k + 1],
-            y: codes[5 * k + 2],
-        },
-        size: (codes[5 * k + 3] != 0).then_some(Vec2 {
-            x: floats[4 * k + 2],
-            y: floats[4 * k + 3],
+        pivot: Align2 { x, y },
+        size: (sized != 0).then_some(Vec2 {
+            x: width,
+            y: height,
         }),
-        interactable: codes[5 * k + 4] != 0,
+        interactable: interactable != 0,
     }
 }
 

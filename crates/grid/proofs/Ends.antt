@@ -17,7 +17,8 @@ use Rattle.floats.specs.Count.{at, count_of}
 use Rattle.floats.proofs.Counts.{lt_count, le_count}
 use Rattle.floats.proofs.Plain.{power}
 use Rattle.floats.proofs.Value.{le_at}
-use Rattle.grid.specs.Grid.{corner_refusal, axis_taken, rect_refusal}
+use Rattle.grid.specs.Grid.{corner_refusal, rect_refusal}
+use Rattle.grid.specs.Steps.{axis_taken}
 use Rattle.grid.proofs.Accepted.{within_count}
 use Rattle.grid.proofs.Step.{step_f, step_taken, taken_step}
 

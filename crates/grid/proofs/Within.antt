@@ -14,7 +14,8 @@ use Rattle.floats.specs.Count.{signed, off, at, count_of}
 use Rattle.floats.proofs.Plain.{nil, power, below_nil, not_below_nil, some_digits, le_power}
 use Rattle.floats.proofs.Sign.{size_signed}
 use Rattle.floats.proofs.Held.{zero_exponent, unsigned}
-use Rattle.grid.specs.Grid.{taken_by, on_grid, within, corner_refusal, pivot_refusal}
+use Rattle.grid.specs.Grid.{on_grid, within, corner_refusal, pivot_refusal}
+use Rattle.grid.specs.Steps.{taken_by}
 use Rattle.grid.proofs.Product.{times}
 use Rattle.grid.proofs.Whole.{big, whole_test}
 

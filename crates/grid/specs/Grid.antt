@@ -1,7 +1,7 @@
 -- Refusals 3 and 4 of corners, sizes, pivot positions and rectangles, from document 01, "Grid" and "What a refused call says". Definitions only.
-use Rattle.std.specs.Prelude.{ℕ, ◌*◌, Bool, not, ◌&&◌, ◌||◌, cond, ℤ, pos, negsuc, nat_abs, leb, eqb, Float}
+use Rattle.std.specs.Prelude.{ℕ, ◌*◌, ◌||◌, cond, ℤ, pos, negsuc, nat_abs, leb, Float}
 use Rattle.std.specs.Float.{binary32}
-use Rattle.std.specs.Float.Ieee.{of_bits, neg, lt, le, eq, add, sub, mul}
+use Rattle.std.specs.Float.Ieee.{of_bits, neg, lt}
 use Rattle.refusal.specs.Refusal.{none, off_grid, reversed, lowest}
 use Rattle.floats.specs.Count.{Count, off, at, count_of}
 use Rattle.emath.specs.declared.Pos2.{Pos2}
@@ -10,13 +10,6 @@ use Rattle.emath.specs.declared.Rect.{Rect}
 -- without its sign, but for -0.0
 abbrev pub magnitude_of : Float → Float
 magnitude_of x = cond (lt x (of_bits binary32 0)) (neg x) x
-
--- the test of f32 alone: the size is within the bound, and so many steps of it are whole, since from 2 ^ 23 on a sum has no room for a fraction
-abbrev pub whole_by : Float → Bool
-whole_by y = eq (sub binary32 (add binary32 y (of_bits binary32 0x4b00_0000)) (of_bits binary32 0x4b00_0000)) y
-
-abbrev pub taken_by : Float → Float → Float → Bool
-taken_by x bound steps = le (magnitude_of x) bound && whole_by (mul binary32 (magnitude_of x) steps)
 
 -- a number that is on no step of the grid is refused, and any other by how many steps it is
 abbrev pub on_grid : Count → (ℤ → ℕ) → ℕ
@@ -57,7 +50,3 @@ crossed r = cond (lt r.max.x r.min.x || lt r.max.y r.min.y) reversed none
 
 unfoldable pub rect_refusal : Rect → ℕ
 rect_refusal r = lowest (lowest (pos_refusal r.min) (pos_refusal r.max)) (crossed r)
-
--- one axis of a rectangle is taken: both its ends are, and the high one is not below the low one
-abbrev pub axis_taken : Float → Float → Bool
-axis_taken low high = eqb (corner_refusal low) none && (eqb (corner_refusal high) none && not (lt high low))

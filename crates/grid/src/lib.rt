@@ -2,12 +2,11 @@
 // Any f32 goes in, NaN and the infinities too.
 #![tactic(auto)]
 
-ghost use Rattle.std.specs.Prelude.{◌≡◌, cond, ℕ, ◌*◌, ◌≤◌, ℤ, pos, nat_abs, Float};
-ghost use Rattle.std.specs.Float.{binary32};
-ghost use Rattle.std.specs.Float.Ieee.{of_bits, add, sub, eq};
-ghost use Rattle.refusal.specs.Refusal.{none, off_grid, number_in};
+ghost use Rattle.std.specs.Prelude.{◌≡◌, ℕ, ◌*◌, ◌≤◌, ℤ, pos, nat_abs, Float};
+ghost use Rattle.refusal.specs.Refusal.{none, number_in};
 ghost use Rattle.floats.specs.Count.{at, count_of};
-ghost use Rattle.grid.specs.Grid.{magnitude_of, whole_by, taken_by, within, corner_refusal, pivot_refusal, side_refusal, pos_refusal, pivot_pos_refusal, size_refusal, crossed, rect_refusal, axis_taken};
+ghost use Rattle.grid.specs.Grid.{magnitude_of, within, corner_refusal, pivot_refusal, side_refusal, pos_refusal, pivot_pos_refusal, size_refusal, crossed, rect_refusal};
+ghost use Rattle.grid.specs.Steps.{multiple_by, taken_by, axis_taken};
 
 use emath::{Pos2, Rect};
 use refusal::Refusal;
@@ -19,11 +18,17 @@ pub fn magnitude(x: f32) -> f32
     if x < 0.0 { -x } else { x }
 }
 
-// Whether y, from 0 to 2^23, is a whole number: a sum from 2^23 on has no room for a fraction.
-fn is_whole(y: f32) -> bool
-    ensures { result ≡ whole_by y }
+// f32 has steps of 1 from it on.
+const WHOLE: f32 = 8388608.0;
+
+// f32 has steps of 1/32 around it.
+const MIDDLE: f32 = 393216.0;
+
+// Whether y is a multiple of the steps that f32 has where y + far lies: the sum has no room for less.
+fn is_multiple(y: f32, far: f32) -> bool
+    ensures { result ≡ multiple_by y far }
 {
-    (y + 8388608.0) - 8388608.0 == y
+    (y + far) - far == y
 }
 
 // Whether x is a whole number of steps within ±bound, for so many steps to 1.
@@ -31,27 +36,21 @@ fn is_taken(x: f32, bound: f32, steps: f32) -> bool
     ensures { result ≡ taken_by x bound steps }
 {
     let size = magnitude(x);
-    size <= bound && is_whole(size * steps)
-}
-
-fn on_grid(taken: bool) -> Result<(), Refusal>
-    ensures { number_in result ≡ cond taken none off_grid }
-{
-    if taken { Ok(()) } else { Err(Refusal::OffGrid) }
+    size <= bound && is_multiple(size * steps, WHOLE)
 }
 
 // One coordinate of a corner: a multiple of 1/32 within ±16,384.
 pub fn corner(x: f32) -> Result<(), Refusal>
     ensures { number_in result ≡ corner_refusal x }
 {
-    on_grid(is_taken(x, 16384.0, 32.0))
+    refusal::check(is_taken(x, 16384.0, 32.0), Refusal::OffGrid)
 }
 
 // One coordinate of a pivot position: a multiple of 1/64 within ±32,768.
 fn pivot(x: f32) -> Result<(), Refusal>
     ensures { number_in result ≡ pivot_refusal x }
 {
-    on_grid(is_taken(x, 32768.0, 64.0))
+    refusal::check(is_taken(x, 32768.0, 64.0), Refusal::OffGrid)
 }
 
 // A width or a height: a multiple of 1/32 from 0 to 16,384. From 2^18 on every f32 is a multiple of 1/32.
@@ -60,16 +59,16 @@ fn side(x: f32) -> Result<(), Refusal>
 {
     if x < 0.0 {
         let size = -x;
-        if size <= 262144.0 {
-            if is_whole(size * 32.0) {
-                return Err(Refusal::Reversed);
-            }
-            return Err(Refusal::OffGrid);
-        }
-        if size < f32::from_bits(0x7f80_0000) {
-            return Err(Refusal::Reversed);
-        }
-        return Err(Refusal::OffGrid);
+        let on_step = if size <= 262144.0 {
+            is_multiple(size * 32.0, WHOLE)
+        } else {
+            size < f32::INFINITY
+        };
+        return Err(if on_step {
+            Refusal::Reversed
+        } else {
+            Refusal::OffGrid
+        });
     }
     corner(x)
 }
@@ -96,33 +95,19 @@ pub fn size(x: f32, y: f32) -> Result<(), Refusal>
 fn crossed(r: Rect) -> Result<(), Refusal>
     ensures { number_in result ≡ crossed r }
 {
-    if r.max.x < r.min.x || r.max.y < r.min.y {
-        return Err(Refusal::Reversed);
-    }
-    Ok(())
+    let is_crossed = r.max.x < r.min.x || r.max.y < r.min.y;
+    refusal::check(!is_crossed, Refusal::Reversed)
 }
 
-// Whether x, within ±16,384, is a multiple of 1/32: the sum lies where f32 has steps of 1/32.
-fn on_step(x: f32) -> bool
-    ensures { result ≡ eq (sub binary32 (add binary32 x (of_bits binary32 0x48c0_0000)) (of_bits binary32 0x48c0_0000)) x }
-{
-    (x + 393216.0) - 393216.0 == x
-}
-
-// Whether one axis of a rectangle is taken: both ends on the grid, in their order. One test inside the other: as one `&&` the proof did not close.
+// Whether one axis of a rectangle is taken: both ends on the grid, in their order.
 fn axis(low: f32, high: f32) -> bool
     ensures { result ≡ axis_taken low high }
 {
-    if low <= high {
-        if -16384.0 <= low {
-            if high <= 16384.0 {
-                if on_step(low) {
-                    return on_step(high);
-                }
-            }
-        }
-    }
-    false
+    low <= high
+        && -16384.0 <= low
+        && high <= 16384.0
+        && is_multiple(low, MIDDLE)
+        && is_multiple(high, MIDDLE)
 }
 
 // A rectangle that is taken is told by its two axes, which is quicker than the sum of its refusals.

@@ -8,7 +8,7 @@ ghost use Rattle.refusal.specs.Refusal.{lowest, code_refusal, number_in, answer}
 ghost use Rattle.refusal.specs.Limits.{last_order};
 ghost use Rattle.layers.specs.Layers.{layer_refusal};
 ghost use Rattle.layer_rows.specs.Rows.{lent, row_of};
-ghost use Rattle.layer_queries.specs.Queries.{is_child_row, is_window_row, is_listed, is_top_row, rank_in, compared_by, shown_last, is_visible_row, is_sublayer_row, parent_in, last_of};
+ghost use Rattle.layer_queries.specs.Queries.{is_child_row, is_window_row, is_listed, is_top_row, rank_of, rank_in, compared_by, shown_last, is_visible_row, is_sublayer_row, parent_in, last_of};
 
 use layer_rows::{LayerRows, Row};
 use layers::LayerId;
@@ -123,21 +123,21 @@ pub fn top_layer_id(rows: LayerRows, order: u64) -> Result<Option<LayerId>, Refu
     Ok(top(rows, order))
 }
 
-// 0 for a layer without a place, and one more than its place for the others.
+// The place of a layer that has one.
 #[tactic(auto, using(crate::proofs::Ranks::has_place, crate::proofs::Ranks::no_place))]
-fn rank(rows: LayerRows, layer: LayerId) -> usize
-    ensures { result ≡ rank_in (lent rows.entry) layer }
+fn place(rows: LayerRows, layer: LayerId) -> Option<usize>
+    ensures { rank_of result ≡ rank_in (lent rows.entry) layer }
 {
     let k = rows.spot(layer);
-    if k < rows.held() { k + 1 } else { 0 }
+    (k < rows.held()).then_some(k)
 }
 
 // `compare_order` of any two layers: it refuses none.
 pub fn by_place(rows: LayerRows, a: LayerId, b: LayerId) -> Ordering
     ensures { ordering_index result ≡ compared_by (lent rows.entry) a b }
 {
-    let by_rank = || rank(rows, a).cmp(&rank(rows, b));
-    a.order.cmp(&b.order).then_with(by_rank)
+    let by_place = || place(rows, a).cmp(&place(rows, b));
+    a.order.cmp(&b.order).then_with(by_place)
 }
 
 // The rows that have a place are the first so many.

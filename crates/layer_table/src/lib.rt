@@ -27,11 +27,7 @@ fn with_row(n: usize, k: usize) -> usize
 pub fn check_room(rows: LayerRows, n: usize) -> Result<(), Refusal>
     ensures { number_in result ≡ full_refusal (room_in rows.entry.words.now) n }
 {
-    if rows.room() < n {
-        Err(Refusal::Full)
-    } else {
-        Ok(())
-    }
+    refusal::check(n <= rows.room(), Refusal::Full)
 }
 
 // Changes the row of a layer, or makes it where it has none. How many rows are then held.
@@ -96,11 +92,8 @@ fn some_child(rows: LayerRows, layer: LayerId) -> bool
 fn check_pair(parent: LayerId, child: LayerId) -> Result<(), Refusal>
     ensures { number_in result ≡ pair_refusal parent child }
 {
-    if parent.order == child.order && parent.id != child.id {
-        Ok(())
-    } else {
-        Err(Refusal::BadPair)
-    }
+    let are_pair = parent.order == child.order && parent.id != child.id;
+    refusal::check(are_pair, Refusal::BadPair)
 }
 
 // Whether a row has another parent.
@@ -114,14 +107,10 @@ fn other_parent(r: Row, parent: u64) -> bool
 fn check_family(rows: LayerRows, parent: LayerId, child: LayerId) -> Result<(), Refusal>
     ensures { number_in result ≡ family_refusal (lent rows.entry) parent child }
 {
-    if other_parent(rows.row_of(child), parent.id)
-        || some_child(rows, child)
-        || rows.row_of(parent).parent != 0
-    {
-        Err(Refusal::BadFamily)
-    } else {
-        Ok(())
-    }
+    let fits = !other_parent(rows.row_of(child), parent.id)
+        && !some_child(rows, child)
+        && rows.row_of(parent).parent == 0;
+    refusal::check(fits, Refusal::BadFamily)
 }
 
 // How many rows there are once both layers have one.

@@ -48,14 +48,10 @@ pub fn heard(so_far: Heard, filter: EventFilter, event: Event) -> Heard
 pub fn focused_widget(nav: Nav) -> Option<FocusWidget>
     ensures { result ≡ focused_widget nav }
 {
-    if nav.focused == 0 {
-        None
-    } else {
-        Some(FocusWidget {
-            id: nav.focused,
-            filter: nav.filter,
-        })
-    }
+    (nav.focused != 0).then_some(FocusWidget {
+        id: nav.focused,
+        filter: nav.filter,
+    })
 }
 
 // The focused widget's filter, or the default.

@@ -1,8 +1,8 @@
 // The refusals of document 01 and the limits behind them, each under one name, and how refusals join.
 #![tactic(auto)]
 
-ghost use Rattle.std.specs.Prelude.{◌≡◌, ◌≤◌, ℕ};
-ghost use Rattle.refusal.specs.Refusal.{bad_family, number_of, number_in, answer, lowest, id_refusal, code_refusal};
+ghost use Rattle.std.specs.Prelude.{◌≡◌, ◌≤◌, ℕ, cond};
+ghost use Rattle.refusal.specs.Refusal.{none, bad_family, number_of, number_in, answer, lowest, id_refusal, code_refusal};
 
 // Why a call is refused: an id is 0, a code passes the last of its kind, a number is off its grid, corners or a size are the wrong way round, a list
 // is too long or names an id twice, a table has no place left, a widget's record is of another layer than the call, parent and child cannot be a pair, a pair does not fit the other pairs.
@@ -38,14 +38,21 @@ impl From<Refusal> for u64 {
     }
 }
 
-// The number of what a check found, for programs in other languages: 0 where the call is taken.
-pub fn number(checked: Result<(), Refusal>) -> u64
-    ensures { result ≡ number_in checked }
+// The number of what a check or a call answers, for programs in other languages: 0 where it is taken.
+pub fn number<A>(answer: &Result<A, Refusal>) -> u64
+    ensures { result ≡ number_in answer.now }
 {
-    match checked {
-        Ok(()) => NONE,
-        Err(r) => u64::from(r),
+    match answer {
+        Ok(_) => NONE,
+        Err(r) => u64::from(*r),
     }
+}
+
+// Taken where a test holds, and else refused.
+pub fn check(holds: bool, refusal: Refusal) -> Result<(), Refusal>
+    ensures { number_in result ≡ cond holds none (number_of refusal) }
+{
+    if holds { Ok(()) } else { Err(refusal) }
 }
 
 fn lower(r: Refusal, s: Refusal) -> Refusal
@@ -68,22 +75,14 @@ pub fn both(a: Result<(), Refusal>, b: Result<(), Refusal>) -> Result<(), Refusa
 pub fn check_id(id: u64) -> Result<(), Refusal>
     ensures { number_in result ≡ id_refusal id }
 {
-    if id == 0 {
-        Err(Refusal::ZeroId)
-    } else {
-        Ok(())
-    }
+    check(id != 0, Refusal::ZeroId)
 }
 
 // A code of a kind whose last one is `last`.
 pub fn check_code(code: u64, last: u64) -> Result<(), Refusal>
     ensures { number_in result ≡ code_refusal code last }
 {
-    if last < code {
-        Err(Refusal::Code)
-    } else {
-        Ok(())
-    }
+    check(code <= last, Refusal::Code)
 }
 
 // An answer by a number of the table tells that number, so a contract that says `answer n` says by what number the call is refused. There is nothing to run.

@@ -52,11 +52,7 @@ pub fn word(s: &[u8], at: usize, w: &[u8]) -> Option<usize>
     ensures { result ≡ word_at s.now at w.now }
 {
     let rest = &s[at.min(s.len())..];
-    if rest.starts_with(w) {
-        Some(at + w.len())
-    } else {
-        None
-    }
+    rest.starts_with(w).then(|| at + w.len())
 }
 
 // A space and a number.

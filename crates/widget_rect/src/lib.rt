@@ -27,11 +27,7 @@ pub struct WidgetRect {
 fn check_layers(call: LayerId, held: LayerId) -> Result<(), Refusal>
     ensures { number_in result ≡ other_layer_refusal call held }
 {
-    if call == held {
-        Ok(())
-    } else {
-        Err(Refusal::OtherLayer)
-    }
+    refusal::check(call == held, Refusal::OtherLayer)
 }
 
 impl WidgetRect {

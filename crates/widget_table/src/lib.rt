@@ -63,11 +63,7 @@ fn remove(ids: &mut [u64], words: &mut [u64], rects: &mut [f32], n: usize, k: us
 fn check_room(found: Option<usize>, n: usize, room: usize) -> Result<(), Refusal>
     ensures { number_in result ≡ full_refusal found n room }
 {
-    if found.is_some() || n < room {
-        Ok(())
-    } else {
-        Err(Refusal::Full)
-    }
+    refusal::check(found.is_some() || n < room, Refusal::Full)
 }
 
 // ---- the calls

@@ -6,4 +6,4 @@ use Rattle.grid.proofs.Within.{corner_taken}
 use Rattle.grid.proofs.corner.Goals as goal
 
 pub returns : goal.returns
-returns c = c.on_grid.ensures ∙ ap (λ (t : Bool). cond t 0 3) c.is_taken.ensures ∙ corner_taken _ (subst T (sym c.well_formed.0.1) tt)
+returns c = c.check.ensures ∙ ap (λ (t : Bool). cond t 0 3) c.is_taken.ensures ∙ corner_taken _ (subst T (sym c.well_formed.0.1) tt)
