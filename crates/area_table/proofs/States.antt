@@ -1,6 +1,7 @@
 -- A state that was put in a row reads back as itself, and no other row is changed. Assumes nothing.
 use mathlib.Core.Path.{◌≡◌, refl, sym, ◌∙◌}
-use mathlib.Core.Bool.{Bool, true, false, not}
+use mathlib.Core.Bool.{Bool, true, false, not, cond}
+use Rattle.std.specs.Bool.{then_some}
 use mathlib.Core.List.{List, append-nil}
 use Prim.Native.Nat.{ℕ, ◌+◌, ◌*◌, ◌<◌, ◌≤◌}
 use native.Mathlib.Nat.{zero-add, add-zero}
@@ -32,6 +33,14 @@ module _ {A : Type 0} where
 
   put_there : (s j k : ℕ) (xs row : List A) → (j ≡ k → ⊥) → length row ≡ s → s * k + s ≤ length xs → row_at s j (put_at xs (s * k) row) ≡ row_at s j xs
   put_there s j k xs row n e h = rw add-zero at (put_row_other s j k 0 xs row n (omega arith) h)
+
+-- a size that is read by its flag
+pub sized_some : (held : ℕ) (x y : Float) → then_some {T = Vec2} (not (eqb held 0)) (record { x = x; y = y }) ≡ size_in held x y
+sized_some held x y = go (eqb held 0)
+  where
+    go : (t : Bool) → then_some {T = Vec2} (not t) (record { x = x; y = y }) ≡ cond t None (Some (record { x = x; y = y }))
+    go true = refl
+    go false = refl
 
 -- ---- a state is read from its row only
 module _ (codes : List ℕ) (floats : List Float) (k : ℕ) where

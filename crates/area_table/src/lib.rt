@@ -7,12 +7,22 @@
 
 ghost use Rattle.std.specs.Prelude.{◌≡◌, ◌+◌, ◌*◌, ◌≤◌, length};
 ghost use Rattle.tables.specs.Tables.{put_at};
-ghost use Rattle.area_table.specs.Table.{table_in, lent, room_of, held_in, found_in, spot_of, state_in, codes_of, floats_of, held_of, put_in};
+ghost use Rattle.area_table.specs.Table.{table_in, lent, room_of, held_in, found_in, spot_of, pivot_pos_in, state_in, codes_of, floats_of, held_of, put_in};
 
 use area::{Align2, AreaState, PivotPos};
 use emath::Vec2;
 
 // ---- a state and its numbers
+
+fn pivot_pos(placed: u64, x: f32, y: f32) -> PivotPos
+    ensures { result ≡ pivot_pos_in placed x y }
+{
+    if placed == 0 {
+        PivotPos::Absent
+    } else {
+        PivotPos::At(x, y)
+    }
+}
 
 #[tactic(auto, unfolding(crate::specs::Table::state_in))]
 fn read(codes: &[u64], floats: &[f32], k: usize) -> AreaState
@@ -22,11 +32,7 @@ fn read(codes: &[u64], floats: &[f32], k: usize) -> AreaState
     let [placed, x, y, sized, interactable] = codes.as_chunks::<5>().0[k];
     let [left, top, width, height] = floats.as_chunks::<4>().0[k];
     AreaState {
-        pivot_pos: if placed == 0 {
-            PivotPos::Absent
-        } else {
-            PivotPos::At(left, top)
-        },
+        pivot_pos: pivot_pos(placed, left, top),
         pivot: Align2 { x, y },
         size: (sized != 0).then_some(Vec2 {
             x: width,

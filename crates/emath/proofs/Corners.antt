@@ -1,22 +1,13 @@
 -- A table of numbers seen as rectangles, four numbers each. Assumes nothing.
-use mathlib.Core.Path.{◌≡◌, ◌∙◌}
+use mathlib.Core.Path.{◌≡◌}
 use mathlib.Core.List.{List, []}
-use Prim.Native.Nat.{ℕ, zero, suc, ◌+◌, ◌*◌, ◌/◌, ◌<◌}
+use Prim.Native.Nat.{ℕ, ◌+◌, ◌*◌, ◌/◌, ◌<◌}
 use native.Mathlib.Omega.{arith}
 use lib.Ieee.{Float, nan}
-use lib.ListN.{length, get_or, drop}
-use lib.Seq.{get_or-take, get_or-drop}
+use lib.ListN.{length, get_or}
 use Rattle.std.specs.Simd.{first_chunks}
+use Rattle.tables.proofs.Chunks.{chunk_get}
 use Rattle.emath.specs.Rect.{from_corners}
-
-chunk_get : (n k i p : ℕ) (w : List Float) → k < n → i < 4 → p ≡ 4 * k + i → get_or (get_or (first_chunks 4 n w) k []) i nan ≡ get_or w p nan
-chunk_get zero k i p w h l e = absurd (omega arith)
-chunk_get (suc n) zero i p w h l e =
-    let q : p ≡ i = omega arith in
-    rw q (get_or-take 4 w i nan l)
-chunk_get (suc n) (suc k) i p w h l e =
-    let q : p ≡ 4 + (4 * k + i) = omega arith in
-    chunk_get n k i (4 * k + i) (drop 4 w) (omega arith) l (omega arith) ∙ rw q (get_or-drop 4 w (4 * k + i) nan)
 
 -- of a table cut into arrays, array k has the rectangle of the four numbers from `at` on
 pub row_rect : (k at : ℕ) (w : List Float) (rows : List (List Float)) → rows ≡ first_chunks 4 (length w / 4) w → length rows ≡ length w / 4 → k < length rows → at ≡ 4 * k
@@ -24,7 +15,7 @@ pub row_rect : (k at : ℕ) (w : List Float) (rows : List (List Float)) → rows
     ≡ record { min = record { x = get_or w at nan; y = get_or w (at + 1) nan }; max = record { x = get_or w (at + 2) nan; y = get_or w (at + 3) nan } }
 row_rect k at w rows f l h e =
     let number : (i p : ℕ) → i < 4 → p ≡ 4 * k + i → get_or (get_or rows k []) i nan ≡ get_or w p nan =
-    λ i p m q. rw f (chunk_get _ k i p w (omega arith) m q) in
+    λ i p m q. rw f (chunk_get nan 4 _ k i p w (omega arith) m q) in
     λ j. record {
       min = record { x = number 0 at (omega arith) (omega arith) j; y = number 1 (at + 1) (omega arith) (omega arith) j };
       max = record { x = number 2 (at + 2) (omega arith) (omega arith) j; y = number 3 (at + 3) (omega arith) (omega arith) j };

@@ -1,5 +1,4 @@
 -- Laws of the definitions, in the form in which the functions ask for them.
-pub mod Chunks
 pub mod Rows
 pub mod Table
 pub mod Marks

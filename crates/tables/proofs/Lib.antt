@@ -1,4 +1,5 @@
 -- Laws that the proofs of the tables' functions share.
+pub mod Chunks
 pub mod Finding
 pub mod Rows
 pub mod Writing

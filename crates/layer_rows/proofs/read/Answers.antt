@@ -1,13 +1,13 @@
 -- `layer_rows::read` meets its contract. Assumes nothing.
 use native.Mathlib.Omega.{arith}
 use Rattle.std.proofs.Common.{◌≡◌, ℕ, ◌+◌, ◌*◌, ◌<◌, [], get_or}
-use Rattle.layer_rows.proofs.Chunks.{chunk_get}
+use Rattle.tables.proofs.Chunks.{chunk_get}
 use Rattle.layer_rows.proofs.read.Goals as goal
 
 pub returns : goal.returns
 returns c =
     let at : (i p : ℕ) → i < 8 → p ≡ 8 * c.args.k + i → get_or (get_or c.as_chunks.result.0.now c.args.k []) i 0 ≡ get_or c.args.rows.now p 0 =
-    λ i p l e. rw c.as_chunks.ensures.front (chunk_get _ c.args.k i p c.args.rows.now (omega arith) l e) in
+    λ i p l e. rw c.as_chunks.ensures.front (chunk_get 0 8 _ c.args.k i p c.args.rows.now (omega arith) l e) in
     λ j. record {
       layer = record { order = at 0 (8 * c.args.k) (omega arith) (omega arith) j; id = at 1 (8 * c.args.k + 1) (omega arith) (omega arith) j };
       shown = at 2 (8 * c.args.k + 2) (omega arith) (omega arith) j;
