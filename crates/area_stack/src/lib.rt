@@ -14,7 +14,7 @@ use area_table::AreaTable;
 use emath::Pos2;
 use layer_queries::Listing;
 use layer_rows::{LayerRows, Row};
-use layers::LayerId;
+use layers::{LayerId, NO_LAYER};
 use refusal::Refusal;
 
 // ---- `set_state`
@@ -120,7 +120,7 @@ pub fn layer_id_at(rows: LayerRows, areas: AreaTable, pos: Pos2) -> Option<Layer
     ensures { result ≡ layer_id_at (tables_lent rows.entry areas.entry) pos }
 {
     for k in (0..rows.held()).rev() {
-        let r = rows.row_at(k, LayerId { order: 0, id: 0 });
+        let r = rows.row_at(k, NO_LAYER);
         if hit_row(areas, pos, r) {
             return Some(r.layer);
         }
@@ -135,7 +135,7 @@ pub fn next_layer(rows: LayerRows, from: usize, listing: Listing) -> Option<(usi
     ensures { result ≡ next_layer listing from (drop from (rows_lent rows.entry)) }
 {
     for k in from..rows.held() {
-        let r = rows.row_at(k, LayerId { order: 0, id: 0 });
+        let r = rows.row_at(k, NO_LAYER);
         if layer_queries::is_listed(listing, r) {
             return Some((k + 1, r.layer));
         }
@@ -143,7 +143,7 @@ pub fn next_layer(rows: LayerRows, from: usize, listing: Listing) -> Option<(usi
     None
 }
 
-// The state of the row's area, if the row is a window.
+// The state of the row's area, if the row is a window. Both arms are options, so `then_some` does not fit.
 fn window_state(areas: AreaTable, r: Row) -> Option<AreaState>
     ensures { result ≡ window_state (areas_lent areas.entry) areas.entry.count r }
 {
@@ -163,7 +163,7 @@ pub fn next_window(
     ensures { result ≡ next_window (areas_lent areas.entry) areas.entry.count from (drop from (rows_lent rows.entry)) }
 {
     for k in from..rows.held() {
-        let r = rows.row_at(k, LayerId { order: 0, id: 0 });
+        let r = rows.row_at(k, NO_LAYER);
         if let Some(s) = window_state(areas, r) {
             return Some((k + 1, r.layer, s));
         }

@@ -20,7 +20,7 @@ use area_table::AreaTable;
 use emath::Pos2;
 use layer_queries::Listing;
 use layer_rows::LayerRows;
-use layers::LayerId;
+use layers::{LayerId, NO_LAYER};
 use refusal::{LAYERS, Refusal};
 use std::cmp::Ordering;
 
@@ -225,14 +225,15 @@ impl Areas {
         layer_queries::top_layer_id(self.stack(), order)
     }
 
-    // ---- listings, in stack order
+    // ---- listings, in stack order: each counts what it lists, as its answer says how many that are, so a `for` would have the count beside it too. A loop for all listings
+    // would be handed the next one as a closure, of which nobody could tell that it comes to an end.
 
     #[tactic(auto, using(crate::proofs::Listings::inside))]
     fn list(&self, listing: Listing) -> Layers
         ensures { result ≡ listed (layers_of self.now listing) }
     {
         let stack = self.stack();
-        let mut layers = [LayerId { order: 0, id: 0 }; LAYERS];
+        let mut layers = [NO_LAYER; LAYERS];
         let mut count = 0;
         let mut from = 0;
         while let Some((next, layer)) = area_stack::next_layer(stack, from, listing) {
@@ -269,7 +270,7 @@ impl Areas {
     {
         let (stack, areas) = (self.stack(), self.table());
         let blank = Window {
-            layer: LayerId { order: 0, id: 0 },
+            layer: NO_LAYER,
             state: AreaState::new(),
         };
         let mut windows = [blank; LAYERS];

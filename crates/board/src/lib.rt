@@ -18,7 +18,7 @@ use area_stack::Counts;
 use area_table::AreaTable;
 use emath::{Pos2, Rect, Vec2};
 use layer_rows::LayerRows;
-use layers::LayerId;
+use layers::{LayerId, NO_LAYER};
 use refusal::Refusal;
 use widget_rect::WidgetRect;
 
@@ -64,12 +64,10 @@ pub extern "C" fn jaturemi_insert(
 ) -> Inserted
     ensures { (result.refusal ≡ refusal_of (table_in count cells.old ids.old words.old rects.old) layer new) × (table_in result.count cells.new ids.new words.new rects.new ≡ insert_of (table_in count cells.old ids.old words.old rects.old) layer new move_to_top) }
 {
-    match widget_table::insert(cells, ids, words, rects, count, layer, new, move_to_top) {
-        Ok(count) => Inserted { refusal: 0, count },
-        Err(refused) => Inserted {
-            refusal: u64::from(refused),
-            count,
-        },
+    let held = widget_table::insert(cells, ids, words, rects, count, layer, new, move_to_top);
+    Inserted {
+        refusal: refusal::number(&held),
+        count: held.unwrap_or(count),
     }
 }
 
@@ -126,17 +124,13 @@ pub extern "C" fn jaturemi_set_state(
     ensures { (result.refusal ≡ set_state_refusal (tables_in count states rows.old ids.old codes.old floats.old) layer (area_of x y width height interactable)) × (tables_in result.count result.states rows.new ids.new codes.new floats.new ≡ set_state_of (tables_in count states rows.old ids.old codes.old floats.old) layer (area_of x y width height interactable)) }
 {
     let state = area(x, y, width, height, interactable);
-    match area_stack::set_state(rows, ids, codes, floats, count, states, layer, state) {
-        Ok(Counts { count, states }) => Changed {
-            refusal: 0,
-            count,
-            states,
-        },
-        Err(refused) => Changed {
-            refusal: u64::from(refused),
-            count,
-            states,
-        },
+    let held = area_stack::set_state(rows, ids, codes, floats, count, states, layer, state);
+    let refusal = refusal::number(&held);
+    let Counts { count, states } = held.unwrap_or(Counts { count, states });
+    Changed {
+        refusal,
+        count,
+        states,
     }
 }
 
@@ -153,12 +147,9 @@ fn to_c(taken: Result<usize, Refusal>, count: usize) -> Stacked
     ensures refusal { result.refusal ≡ number_in taken }
     ensures count { (n : ℕ) → IfOk taken (λ k. k ≡ n) → result.count ≡ kept (number_in taken) count n }
 {
-    match taken {
-        Ok(count) => Stacked { refusal: 0, count },
-        Err(refused) => Stacked {
-            refusal: u64::from(refused),
-            count,
-        },
+    Stacked {
+        refusal: refusal::number(&taken),
+        count: taken.unwrap_or(count),
     }
 }
 
@@ -213,5 +204,5 @@ pub extern "C" fn jaturemi_layer_id_at(
         codes,
         floats,
     };
-    area_stack::layer_id_at(stack, areas, Pos2 { x, y }).unwrap_or(LayerId { order: 0, id: 0 })
+    area_stack::layer_id_at(stack, areas, Pos2 { x, y }).unwrap_or(NO_LAYER)
 }

@@ -14,10 +14,10 @@ ghost use Rattle.focus_pass.specs.Pass.{begin_of, interest_of, ignore_of};
 ghost use Rattle.used.specs.Used.{entries_in};
 ghost use Rattle.focus_end.specs.End.{end_of, cache_ended};
 
-use focus_rules::Nav;
+use focus_rules::{After, Nav};
 use input::EventFilter;
 use layers::LayerId;
-use refusal::{NONE, Refusal};
+use refusal::Refusal;
 use used::UsedEntries;
 
 // A call's refusal, 0 for none, and the fields after it: records for C, which has no Result.
@@ -58,12 +58,9 @@ pub struct Ended {
 fn after(nav: Nav, answer: Result<Nav, Refusal>) -> Changed
     ensures { (result.refusal ≡ number_in answer) × ((next : Nav) → IfOk answer (λ n. n ≡ next) → result.nav ≡ kept (number_in answer) nav next) }
 {
-    match answer {
-        Ok(nav) => Changed { refusal: NONE, nav },
-        Err(refused) => Changed {
-            refusal: u64::from(refused),
-            nav,
-        },
+    Changed {
+        refusal: refusal::number(&answer),
+        nav: answer.unwrap_or(nav),
     }
 }
 
@@ -98,19 +95,14 @@ pub extern "C" fn jaturemi_interested_in_focus(
     ensures answer { let s = interest_of nav (room_in ids.old rects.old) (held_in count ids.old rects.old) count slot id in (result.refusal ≡ s.refusal) × (result.nav ≡ s.nav) × (result.count ≡ s.count) × (result.slot ≡ s.slot) }
     ensures cache { cache_in ids.new rects.new ≡ kept result.refusal (cache_in ids.old rects.old) (cache_on (cache_in ids.old rects.old) (enlisted (held_in count ids.old rects.old) id)) }
 {
-    match focus_pass::interested_in_focus(nav, ids, rects, count, slot, id) {
-        Ok(r) => Interested {
-            refusal: NONE,
-            nav: r.nav,
-            count: r.count,
-            slot: r.slot,
-        },
-        Err(refused) => Interested {
-            refusal: u64::from(refused),
-            nav,
-            count,
-            slot,
-        },
+    let answer = focus_pass::interested_in_focus(nav, ids, rects, count, slot, id);
+    let refusal = refusal::number(&answer);
+    let after = answer.unwrap_or(focus_pass::Interested { nav, count, slot });
+    Interested {
+        refusal,
+        nav: after.nav,
+        count: after.count,
+        slot: after.slot,
     }
 }
 
@@ -127,17 +119,13 @@ pub extern "C" fn jaturemi_ignore_focus(
     ensures answer { let s = ignore_of nav (held_in count ids.old rects.old) count id in (result.refusal ≡ s.refusal) × (result.nav ≡ s.nav) × (result.count ≡ s.count) }
     ensures cache { cache_in ids.new rects.new ≡ kept result.refusal (cache_in ids.old rects.old) (cache_on (cache_in ids.old rects.old) (without (held_in count ids.old rects.old) id)) }
 {
-    match focus_pass::ignore_focus(nav, ids, rects, count, id) {
-        Ok(r) => Ignored {
-            refusal: NONE,
-            nav: r.nav,
-            count: r.count,
-        },
-        Err(refused) => Ignored {
-            refusal: u64::from(refused),
-            nav,
-            count,
-        },
+    let answer = focus_pass::ignore_focus(nav, ids, rects, count, id);
+    let refusal = refusal::number(&answer);
+    let After { nav, count } = answer.unwrap_or(After { nav, count });
+    Ignored {
+        refusal,
+        nav,
+        count,
     }
 }
 
@@ -157,17 +145,13 @@ pub extern "C" fn jaturemi_end_focus_pass(
     ensures cache { cache_in ids.new rects.new ≡ kept result.refusal (cache_in ids.old rects.old) (cache_on (cache_in ids.old rects.old) (cache_ended nav (held_in count ids.old rects.old) (entries_in used.now corners.now))) }
 {
     let used = UsedEntries { ids: used, corners };
-    match focus_end::end_pass(nav, ids, rects, count, used, limit) {
-        Ok(r) => Ended {
-            refusal: NONE,
-            nav: r.nav,
-            count: r.count,
-        },
-        Err(refused) => Ended {
-            refusal: u64::from(refused),
-            nav,
-            count,
-        },
+    let answer = focus_end::end_pass(nav, ids, rects, count, used, limit);
+    let refusal = refusal::number(&answer);
+    let After { nav, count } = answer.unwrap_or(After { nav, count });
+    Ended {
+        refusal,
+        nav,
+        count,
     }
 }
 

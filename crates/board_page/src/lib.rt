@@ -59,7 +59,7 @@ pub extern "C" fn jaturemi_interested_in_all(
         so_far = want(so_far, ids, rects, id);
     }
     Interested {
-        refusal: refusal::number(so_far.checked),
+        refusal: refusal::number(&so_far.checked),
         nav: so_far.last.nav,
         count: so_far.last.count,
         slot: so_far.last.slot,

@@ -7,7 +7,7 @@ ghost use Rattle.refusal.specs.Refusal.{number_in};
 ghost use Rattle.focus.specs.Focus.{begun_of, interested_of, ended_of};
 
 use focus::{Events, Focus, Used};
-use refusal::{NONE, Refusal};
+use refusal::Refusal;
 
 // The record after a call, and its refusal, 0 for none: a record for C, which has no Result.
 #[derive(Clone, Copy)]
@@ -21,15 +21,9 @@ pub struct Done {
 fn after(f: Focus, answer: Result<Focus, Refusal>) -> Done
     ensures { (result.focus ≡ result_unwrap_or answer f) × (result.refusal ≡ number_in answer) }
 {
-    match answer {
-        Ok(focus) => Done {
-            focus,
-            refusal: NONE,
-        },
-        Err(refused) => Done {
-            focus: f,
-            refusal: u64::from(refused),
-        },
+    Done {
+        refusal: refusal::number(&answer),
+        focus: answer.unwrap_or(f),
     }
 }
 

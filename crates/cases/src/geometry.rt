@@ -122,6 +122,11 @@ fn moved(s: AreaState, x: f32, y: f32) -> Outcome {
 }
 
 fn areas(rt: &impl Print) -> io::Result<()> {
+    left_top_areas(rt)?;
+    right_bottom_areas(rt)
+}
+
+fn left_top_areas(rt: &impl Print) -> io::Result<()> {
     let left_tops = [
         (
             "area at 10, middle, size 3/32: 9.96875",
@@ -157,6 +162,10 @@ fn areas(rt: &impl Print) -> io::Result<()> {
     for (text, area, x, y) in left_tops {
         say(rt, text, left_top(area, x, y))?;
     }
+    Ok(())
+}
+
+fn right_bottom_areas(rt: &impl Print) -> io::Result<()> {
     let right_bottoms = [
         ("area with size -1", area_at(10.0, 2, -1.0, 3.0)),
         (

@@ -10,19 +10,19 @@ use focus::{Events, Focus, Used};
 pub extern "C" fn focus_begin_pass(f: &mut Focus, e: Events) -> u64
     ensures { (f.new ≡ (begun_of f.old e).focus) × (result ≡ (begun_of f.old e).refusal) }
 {
-    refusal::number(focus::focus_begin_pass(f, e))
+    refusal::number(&focus::focus_begin_pass(f, e))
 }
 
 #[unsafe(no_mangle)]
 pub extern "C" fn focus_interested_in_focus(f: &mut Focus, id: u64) -> u64
     ensures { (f.new ≡ (interested_of f.old id).focus) × (result ≡ (interested_of f.old id).refusal) }
 {
-    refusal::number(focus::focus_interested_in_focus(f, id))
+    refusal::number(&focus::focus_interested_in_focus(f, id))
 }
 
 #[unsafe(no_mangle)]
 pub extern "C" fn focus_end_pass(f: &mut Focus, u: Used) -> u64
     ensures { (f.new ≡ (ended_of f.old u).focus) × (result ≡ (ended_of f.old u).refusal) }
 {
-    refusal::number(focus::focus_end_pass(f, u))
+    refusal::number(&focus::focus_end_pass(f, u))
 }

@@ -9,7 +9,7 @@ ghost use Rattle.focus_rules.specs.Rules.{new_nav, focus_on, id_or_nothing, laye
 
 use focus_rules::{NO_DIRECTION, Nav};
 use input::EventFilter;
-use layers::LayerId;
+use layers::{LayerId, NO_LAYER};
 use refusal::{LAST_DIRECTION, Refusal};
 
 pub fn new() -> Nav
@@ -24,8 +24,8 @@ pub fn new() -> Nav
         give_to_next: false,
         last_interested: 0,
         focus_direction: NO_DIRECTION,
-        top_modal_layer: LayerId { order: 0, id: 0 },
-        top_modal_layer_current_frame: LayerId { order: 0, id: 0 },
+        top_modal_layer: NO_LAYER,
+        top_modal_layer_current_frame: NO_LAYER,
     }
 }
 

@@ -11,16 +11,9 @@ ghost use Rattle.focus_end.specs.End.{rect_in, updated, refreshed, cache_ended, 
 ghost use Rattle.focus_end.specs.Steps.{count_after, kept_in, searched_of};
 
 use emath::Rect;
-use focus_rules::Nav;
+use focus_rules::{After, Nav};
 use refusal::Refusal;
 use used::UsedEntries;
-
-// The fields after the end of a pass, and how many entries the cache holds.
-#[derive(Clone, Copy)]
-pub struct Ended {
-    pub nav: Nav,
-    pub count: usize,
-}
 
 // How far the cache is up to date: how many entries are kept, and where among the used ones the next is looked for first.
 #[derive(Clone, Copy)]
@@ -125,7 +118,7 @@ pub fn end_pass(
     count: usize,
     used: UsedEntries<'_>,
     limit: usize,
-) -> Result<Ended, Refusal>
+) -> Result<After, Refusal>
     ensures refusal { number_in result ≡ (end_of limit nav (held_in count ids.old rects.old) count (lent used.entry)).refusal }
     ensures after { IfOk result (λ r. let s = end_of limit nav (held_in count ids.old rects.old) count (lent used.entry) in (r.nav ≡ s.nav) × (r.count ≡ s.count)) }
     ensures cache { cache_in ids.new rects.new ≡ kept (end_of limit nav (held_in count ids.old rects.old) count (lent used.entry)).refusal (cache_in ids.old rects.old) (cache_on (cache_in ids.old rects.old) (cache_ended nav (held_in count ids.old rects.old) (lent used.entry))) }
@@ -137,7 +130,7 @@ pub fn end_pass(
     } else {
         (nav, focus_cache::held(ids, rects, count))
     };
-    Ok(Ended {
+    Ok(After {
         nav: navigation::ended(next, is_used(used, next.focused)),
         count,
     })

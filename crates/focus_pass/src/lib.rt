@@ -13,7 +13,7 @@ ghost use Rattle.focus_cache.specs.Cache.{room_in, held_in, enlisted, without, c
 ghost use Rattle.focus_pass.specs.Events.{event_of, event_at, events_from, count_in, events_in};
 ghost use Rattle.focus_pass.specs.Pass.{worst_of, heard_all, is_granted, begin_of, interest_of, ignore_of};
 
-use focus_rules::{Heard, NO_DIRECTION, Nav};
+use focus_rules::{After, Heard, NO_DIRECTION, Nav};
 use input::{Event, EventFilter};
 use refusal::{EVENTS, Refusal};
 
@@ -23,13 +23,6 @@ pub struct Interested {
     pub nav: Nav,
     pub count: usize,
     pub slot: usize,
-}
-
-// The fields after a call, and how many entries are held.
-#[derive(Clone, Copy)]
-pub struct Ignored {
-    pub nav: Nav,
-    pub count: usize,
 }
 
 // A code that is missing: past the last of every kind.
@@ -169,14 +162,14 @@ pub fn ignore_focus(
     rects: &mut [f32],
     count: usize,
     id: u64,
-) -> Result<Ignored, Refusal>
+) -> Result<After, Refusal>
     ensures refusal { number_in result ≡ (ignore_of nav (held_in count ids.old rects.old) count id).refusal }
     ensures after { IfOk result (λ r. let s = ignore_of nav (held_in count ids.old rects.old) count id in (r.nav ≡ s.nav) × (r.count ≡ s.count)) }
     ensures cache { cache_in ids.new rects.new ≡ kept (ignore_of nav (held_in count ids.old rects.old) count id).refusal (cache_in ids.old rects.old) (cache_on (cache_in ids.old rects.old) (without (held_in count ids.old rects.old) id)) }
 {
     refusal::check_id(id)?;
     let count = focus_cache::remove(ids, rects, count, id);
-    Ok(Ignored {
+    Ok(After {
         nav: focus_calls::let_go(nav, id),
         count,
     })

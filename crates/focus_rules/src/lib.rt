@@ -37,6 +37,13 @@ pub struct FocusWidget {
     pub filter: EventFilter,
 }
 
+// The fields after a call that may change the cache, and how many entries it then holds.
+#[derive(Clone, Copy)]
+pub struct After {
+    pub nav: Nav,
+    pub count: usize,
+}
+
 // What the events of a pass come to: 1 where Escape lets the focus go, the direction, and the id last asked for. Three numbers: the bytes that a flag would leave unused
 // cost more than the rest of the loop over the events.
 #[derive(Clone, Copy)]

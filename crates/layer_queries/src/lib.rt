@@ -11,7 +11,7 @@ ghost use Rattle.layer_rows.specs.Rows.{lent, row_of};
 ghost use Rattle.layer_queries.specs.Queries.{is_child_row, is_window_row, is_listed, is_top_row, rank_of, rank_in, compared_by, shown_last, is_visible_row, is_sublayer_row, parent_in, last_of};
 
 use layer_rows::{LayerRows, Row};
-use layers::LayerId;
+use layers::{LayerId, NO_LAYER};
 use refusal::{LAST_ORDER, Refusal};
 use std::cmp::Ordering;
 
@@ -108,7 +108,7 @@ fn top(rows: LayerRows, order: u64) -> Option<LayerId>
     ensures { result ≡ last_of (is_top_row order) (lent rows.entry) }
 {
     for k in (0..rows.held()).rev() {
-        let r = rows.row_at(k, LayerId { order: 0, id: 0 });
+        let r = rows.row_at(k, NO_LAYER);
         if is_top(order, r) {
             return Some(r.layer);
         }

@@ -15,6 +15,9 @@ pub struct LayerId {
     pub id: u64,
 }
 
+// The layer of id 0 is none.
+pub const NO_LAYER: LayerId = LayerId { order: 0, id: 0 };
+
 impl LayerId {
     #[tactic(auto, unfolding(crate::specs::Layers::layer_refusal))]
     pub fn check(self) -> Result<(), Refusal>

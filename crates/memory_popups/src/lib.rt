@@ -69,6 +69,7 @@ pub fn any_popup_open(fields: Fields) -> bool
     fields.popup.id != 0 || fields.everything_is_visible
 }
 
+// Both arms are options, so `then_some` does not fit.
 fn position(popup: Popup, id: u64) -> Option<Pos2>
     ensures { result ≡ position_in popup id }
 {

@@ -6,7 +6,7 @@ ghost use Rattle.focus_rules.specs.Rules.{focused_widget, filter_of, focus_on, s
 
 use focus_rules::{FocusWidget, Heard, NO_DIRECTION, Nav};
 use input::{Event, EventFilter, NEXT, Navigation, PREVIOUS};
-use layers::LayerId;
+use layers::NO_LAYER;
 
 // A pressed key that the filter lets through.
 fn turned(so_far: Heard, navigation: Navigation) -> Heard
@@ -187,7 +187,7 @@ pub fn ended(nav: Nav, used: bool) -> Nav
 {
     let out = Nav {
         top_modal_layer: nav.top_modal_layer_current_frame,
-        top_modal_layer_current_frame: LayerId { order: 0, id: 0 },
+        top_modal_layer_current_frame: NO_LAYER,
         ..nav
     };
     if nav.id_previous_frame == nav.focused && !used {

@@ -25,11 +25,7 @@ impl<'a> Words<'a> {
 
     // The end of the line.
     pub fn end(&self) -> Option<()> {
-        if self.at == self.line.len() {
-            Some(())
-        } else {
-            None
-        }
+        (self.at == self.line.len()).then_some(())
     }
 
     // A space and a word.
@@ -77,7 +73,7 @@ impl<'a> Words<'a> {
     pub fn held_pos(&mut self) -> Option<Option<Pos2>> {
         let held = self.flag()?;
         let pos = self.pos()?;
-        Some(if held { Some(pos) } else { None })
+        Some(held.then_some(pos))
     }
 
     pub fn layer(&mut self) -> Option<LayerId> {

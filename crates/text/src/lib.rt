@@ -47,12 +47,16 @@ pub fn skip(s: &[u8], at: usize, b: u8) -> Option<usize>
     word(s, at, &[b])
 }
 
-// The place after a word, where all its bytes stand there. The sum may be too large where they don't, so it isn't made before the test; a closure for `then` is no shorter, and its proof did not close.
+// The place after a word, where all its bytes stand there. The sum may be too large where they don't; made in a closure for `then`, its proof did not close.
 pub fn word(s: &[u8], at: usize, w: &[u8]) -> Option<usize>
     ensures { result ≡ word_at s.now at w.now }
 {
     let rest = &s[at.min(s.len())..];
-    rest.starts_with(w).then(|| at + w.len())
+    if rest.starts_with(w) {
+        Some(at + w.len())
+    } else {
+        None
+    }
 }
 
 // A space and a number.

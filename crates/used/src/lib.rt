@@ -10,17 +10,17 @@ use emath::Rect;
 use refusal::Refusal;
 
 // As many cells as a prime near 1,024 whose reciprocal fits in 64 bits, so that the remainder is quick.
-const CELLS: u64 = 1013;
+const CELLS: usize = 1013;
 
 // Whether an id stands twice. Each id sets bits in its cell; the ids before it are looked at only where all of them are set already.
 pub fn repeats(ids: &[u64]) -> bool
     ensures { result ≡ repeated ids.now }
 {
-    let mut cells = [0u16; 1013];
+    let mut cells = [0u16; CELLS];
     for (i, &id) in ids.iter().enumerate() {
-        let cell = (id % CELLS) as usize;
+        let cell = (id % CELLS as u64) as usize;
         // By 9 and 49, of two ids below 4,052 in one cell neither has all the bits of the other.
-        let bits = ((id / CELLS % 65536 * 9 + 49) % 65536) as u16;
+        let bits = ((id / CELLS as u64 % 65536 * 9 + 49) % 65536) as u16;
         let joined = cells[cell] | bits;
         if joined == cells[cell] && ids[..i].contains(&id) {
             return true;

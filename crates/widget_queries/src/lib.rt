@@ -52,7 +52,7 @@ fn put_focusable(out: &mut [u64], n: usize, w: WidgetRect) -> usize
 }
 
 // The ids of the focusable widgets of a layer, in the order of its list, on the first places of `out`, as far as they fit; how many they are. It refuses no
-// layer: the caller asks for that.
+// layer: the caller asks for that. A layer's widgets are found one after the other; those that are listed are fewer, so they are counted apart.
 pub fn focusable_widgets(table: WidgetTable, layer: LayerId, out: &mut [u64]) -> usize
     ensures { (result ≡ length (focusable_ids (list_of (lent table.entry) layer))) × (out.new ≡ written_on out.old (focusable_ids (list_of (lent table.entry) layer))) }
 {

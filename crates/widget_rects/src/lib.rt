@@ -8,7 +8,7 @@ ghost use Rattle.widget_queries.specs.Queries.{order_answer, widget_answer, cont
 ghost use Rattle.widget_rects.specs.WidgetRects.{table_of, new_rects, inserted_of, cleared_rects, blank_widget, listing, list_answer, ids_answer};
 
 use emath::Rect;
-use layers::LayerId;
+use layers::{LayerId, NO_LAYER};
 use refusal::{Refusal, WIDGETS};
 use widget_rect::WidgetRect;
 use widget_rows::WidgetTable;
@@ -44,7 +44,7 @@ fn blank() -> WidgetRect
     WidgetRect {
         id: 0,
         parent_id: 0,
-        layer_id: LayerId { order: 0, id: 0 },
+        layer_id: NO_LAYER,
         rect,
         interact_rect: rect,
         sense: 0,
@@ -128,7 +128,7 @@ impl WidgetRects {
         widget_queries::contains(self.table(), id)
     }
 
-    // The widgets of a layer that is not refused.
+    // The widgets of a layer that is not refused. They are counted, as the answer says how many they are: a `for` would have the count beside it too.
     fn list(&self, layer: LayerId) -> Listing
         ensures { result ≡ listing (list_of (table_of self.now) layer) }
     {
