@@ -6,17 +6,18 @@ ghost use Rattle.refusal.specs.Refusal.{none, bad_family, number_of, number_in, 
 
 // Why a call is refused: an id is 0, a code passes the last of its kind, a number is off its grid, corners or a size are the wrong way round, a list
 // is too long or names an id twice, a table has no place left, a widget's record is of another layer than the call, parent and child cannot be a pair, a pair does not fit the other pairs.
+// The numbers are document 01's.
 #[derive(Clone, Copy, Debug, PartialEq, Eq)]
 pub enum Refusal {
-    ZeroId,
-    Code,
-    OffGrid,
-    Reversed,
-    BadList,
-    Full,
-    OtherLayer,
-    BadPair,
-    BadFamily,
+    ZeroId = 1,
+    Code = 2,
+    OffGrid = 3,
+    Reversed = 4,
+    BadList = 5,
+    Full = 6,
+    OtherLayer = 7,
+    BadPair = 8,
+    BadFamily = 9,
 }
 
 impl From<Refusal> for u64 {
@@ -24,17 +25,7 @@ impl From<Refusal> for u64 {
 
     // The number of document 01.
     fn from(r: Refusal) -> u64 {
-        match r {
-            Refusal::ZeroId => 1,
-            Refusal::Code => 2,
-            Refusal::OffGrid => 3,
-            Refusal::Reversed => 4,
-            Refusal::BadList => 5,
-            Refusal::Full => 6,
-            Refusal::OtherLayer => 7,
-            Refusal::BadPair => 8,
-            Refusal::BadFamily => 9,
-        }
+        r as u64
     }
 }
 
@@ -55,6 +46,7 @@ pub fn check(holds: bool, refusal: Refusal) -> Result<(), Refusal>
     if holds { Ok(()) } else { Err(refusal) }
 }
 
+// By their numbers: of a derived order the proof would have to go through all 81 pairs.
 fn lower(r: Refusal, s: Refusal) -> Refusal
     ensures { number_of result ≡ lowest (number_of r) (number_of s) }
 {
@@ -91,7 +83,7 @@ pub fn answer_tells_number<A>()
 {}
 
 // The number of a call that is taken, as C reads it.
-pub const NONE: u64 = 0;
+const NONE: u64 = 0;
 
 // How many layers the stack holds, widgets the registry and ids the focus cache; how many events begin a pass and used entries end it.
 pub const LAYERS: usize = 64;
