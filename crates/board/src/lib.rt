@@ -41,12 +41,23 @@ pub extern "C" fn jaturemi_find(
     search::find(ids, rects, focused, current, direction)
 }
 
-// By what number an insert is refused, 0 for none, and how many widgets are then held: a record for C, which has no Result.
+// By what number a call is refused, 0 for none, and how many widgets or rows are then held: a record for C, which has no Result.
 #[derive(Clone, Copy)]
 #[repr(C)]
-pub struct Inserted {
+pub struct Held {
     pub refusal: u64,
     pub count: usize,
+}
+
+// A refused call leaves how many were held.
+fn to_c(taken: Result<usize, Refusal>, count: usize) -> Held
+    ensures refusal { result.refusal ≡ number_in taken }
+    ensures count { (n : ℕ) → IfOk taken (λ k. k ≡ n) → result.count ≡ kept (number_in taken) count n }
+{
+    Held {
+        refusal: refusal::number(&taken),
+        count: taken.unwrap_or(count),
+    }
 }
 
 // `widget_table::insert`.
@@ -61,14 +72,11 @@ pub extern "C" fn jaturemi_insert(
     layer: LayerId,
     new: WidgetRect,
     move_to_top: bool,
-) -> Inserted
+) -> Held
     ensures { (result.refusal ≡ refusal_of (table_in count cells.old ids.old words.old rects.old) layer new) × (table_in result.count cells.new ids.new words.new rects.new ≡ insert_of (table_in count cells.old ids.old words.old rects.old) layer new move_to_top) }
 {
-    let held = widget_table::insert(cells, ids, words, rects, count, layer, new, move_to_top);
-    Inserted {
-        refusal: refusal::number(&held),
-        count: held.unwrap_or(count),
-    }
+    let taken = widget_table::insert(cells, ids, words, rects, count, layer, new, move_to_top);
+    to_c(taken, count)
 }
 
 // `widget_table::clear`.
@@ -134,28 +142,9 @@ pub extern "C" fn jaturemi_set_state(
     }
 }
 
-// By what number a call on the layers is refused, 0 for none, and how many rows are then held: a record for C, which has no Result.
-#[derive(Clone, Copy)]
-#[repr(C)]
-pub struct Stacked {
-    pub refusal: u64,
-    pub count: usize,
-}
-
-// A refused call leaves how many were held.
-fn to_c(taken: Result<usize, Refusal>, count: usize) -> Stacked
-    ensures refusal { result.refusal ≡ number_in taken }
-    ensures count { (n : ℕ) → IfOk taken (λ k. k ≡ n) → result.count ≡ kept (number_in taken) count n }
-{
-    Stacked {
-        refusal: refusal::number(&taken),
-        count: taken.unwrap_or(count),
-    }
-}
-
 // `layer_table::move_to_top`.
 #[unsafe(no_mangle)]
-pub extern "C" fn jaturemi_move_to_top(rows: &mut [u64], count: usize, layer: LayerId) -> Stacked
+pub extern "C" fn jaturemi_move_to_top(rows: &mut [u64], count: usize, layer: LayerId) -> Held
     ensures { (result.refusal ≡ top_refusal (room_in rows.old) (held_rows count rows.old) layer) × (result.count ≡ kept result.refusal count (length (to_top (held_rows count rows.old) layer))) × (rows.new ≡ kept result.refusal rows.old (rows_on rows.old (to_top (held_rows count rows.old) layer))) }
 {
     to_c(layer_table::move_to_top(rows, count, layer), count)
@@ -168,7 +157,7 @@ pub extern "C" fn jaturemi_set_sublayer(
     count: usize,
     parent: LayerId,
     child: LayerId,
-) -> Stacked
+) -> Held
     ensures { (result.refusal ≡ sublayer_refusal (room_in rows.old) (held_rows count rows.old) parent child) × (result.count ≡ kept result.refusal count (length (with_sublayer (held_rows count rows.old) parent child))) × (rows.new ≡ kept result.refusal rows.old (rows_on rows.old (with_sublayer (held_rows count rows.old) parent child))) }
 {
     let taken = layer_table::set_sublayer(rows, count, parent, child);

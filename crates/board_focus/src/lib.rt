@@ -1,12 +1,12 @@
 // The focus for C and Rust programs, as crate `board` has the rest: numbers, records of numbers and slices. A slice is two arguments in C, where it starts and how
-// many elements it has. Each function gives what the one that it calls gives;
-// each record that C gets has fields of its own, so that each is made by its own function.
+// many elements it has. Each function gives what the one that it calls gives.
 #![tactic(auto)]
 
 ghost use Rattle.std.specs.Prelude.{◌≡◌, IfOk};
 ghost use Rattle.refusal.specs.Refusal.{number_in, id_refusal, code_refusal, kept};
 ghost use Rattle.refusal.specs.Limits.{last_direction};
 ghost use Rattle.layers.specs.Layers.{layer_refusal};
+ghost use Rattle.focus_rules.specs.declared.After.{After};
 ghost use Rattle.focus_rules.specs.Rules.{focus_on, with_next, let_go, filtered_of, with_direction, with_modals};
 ghost use Rattle.focus_cache.specs.Cache.{room_in, held_in, enlisted, without, cache_in, cache_on};
 ghost use Rattle.focus_pass.specs.Events.{events_in};
@@ -38,17 +38,10 @@ pub struct Interested {
     pub slot: usize,
 }
 
+// And only how many entries are held.
 #[derive(Clone, Copy)]
 #[repr(C)]
-pub struct Ignored {
-    pub refusal: u64,
-    pub nav: Nav,
-    pub count: usize,
-}
-
-#[derive(Clone, Copy)]
-#[repr(C)]
-pub struct Ended {
+pub struct Counted {
     pub refusal: u64,
     pub nav: Nav,
     pub count: usize,
@@ -61,6 +54,20 @@ fn after(nav: Nav, answer: Result<Nav, Refusal>) -> Changed
     Changed {
         refusal: refusal::number(&answer),
         nav: answer.unwrap_or(nav),
+    }
+}
+
+// And of one that may change the cache, which held so many entries.
+fn counted(before: After, answer: Result<After, Refusal>) -> Counted
+    ensures refusal { result.refusal ≡ number_in answer }
+    ensures after { (next : After) → IfOk answer (λ a. a ≡ next) → (result.nav ≡ kept (number_in answer) before.nav next.nav) × (result.count ≡ kept (number_in answer) before.count next.count) }
+{
+    let refusal = refusal::number(&answer);
+    let After { nav, count } = answer.unwrap_or(before);
+    Counted {
+        refusal,
+        nav,
+        count,
     }
 }
 
@@ -115,18 +122,12 @@ pub extern "C" fn jaturemi_ignore_focus(
     rects: &mut [f32],
     count: usize,
     id: u64,
-) -> Ignored
+) -> Counted
     ensures answer { let s = ignore_of nav (held_in count ids.old rects.old) count id in (result.refusal ≡ s.refusal) × (result.nav ≡ s.nav) × (result.count ≡ s.count) }
     ensures cache { cache_in ids.new rects.new ≡ kept result.refusal (cache_in ids.old rects.old) (cache_on (cache_in ids.old rects.old) (without (held_in count ids.old rects.old) id)) }
 {
     let answer = focus_pass::ignore_focus(nav, ids, rects, count, id);
-    let refusal = refusal::number(&answer);
-    let After { nav, count } = answer.unwrap_or(After { nav, count });
-    Ignored {
-        refusal,
-        nav,
-        count,
-    }
+    counted(After { nav, count }, answer)
 }
 
 // `focus_end::end_pass`.
@@ -140,19 +141,13 @@ pub extern "C" fn jaturemi_end_focus_pass(
     used: &[u64],
     corners: &[f32],
     limit: usize,
-) -> Ended
+) -> Counted
     ensures answer { let s = end_of limit nav (held_in count ids.old rects.old) count (entries_in used.now corners.now) in (result.refusal ≡ s.refusal) × (result.nav ≡ s.nav) × (result.count ≡ s.count) }
     ensures cache { cache_in ids.new rects.new ≡ kept result.refusal (cache_in ids.old rects.old) (cache_on (cache_in ids.old rects.old) (cache_ended nav (held_in count ids.old rects.old) (entries_in used.now corners.now))) }
 {
     let used = UsedEntries { ids: used, corners };
     let answer = focus_end::end_pass(nav, ids, rects, count, used, limit);
-    let refusal = refusal::number(&answer);
-    let After { nav, count } = answer.unwrap_or(After { nav, count });
-    Ended {
-        refusal,
-        nav,
-        count,
-    }
+    counted(After { nav, count }, answer)
 }
 
 // ---- the calls on the fields, by value

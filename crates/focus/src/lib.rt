@@ -1,10 +1,12 @@
 // `Focus` of memory/mod.rs as a record by value over the core in place (crates `focus_calls`, `focus_pass`, `focus_end`), and thin forms of begin, interest and end that borrow it to write it.
 #![tactic(auto)]
 
-ghost use Rattle.std.specs.Prelude.{◌≡◌, eqb, IfOk};
-ghost use Rattle.refusal.specs.Refusal.{number_in, answer, id_refusal};
+ghost use Rattle.std.specs.Prelude.{◌≡◌, eqb, IfOk, cond, ltb};
+ghost use Rattle.refusal.specs.Refusal.{none, bad_list, number_in, answer, id_refusal};
+ghost use Rattle.refusal.specs.Limits.{events as most_events};
 ghost use Rattle.focus_rules.specs.Rules.{id_or_nothing, layer_or_nothing};
-ghost use Rattle.focus.specs.Focus.{new_focus, begun_of, interested_of, ended_of, ignored_of, modal_set, requested, requested_next, surrendered, filter_set, moved};
+ghost use Rattle.focus_pass.specs.Events.{events_in};
+ghost use Rattle.focus.specs.Focus.{new_focus, events_of, begun_of, interested_of, ended_of, ignored_of, modal_set, requested, requested_next, surrendered, filter_set, moved};
 
 use focus_rules::Nav;
 use input::EventFilter;
@@ -40,6 +42,18 @@ pub struct Used {
     pub count: usize,
 }
 
+impl Events {
+    // The numbers of the events, lent; more events than the record has are refused.
+    #[tactic(auto, using(crate::proofs::Counted::lent_events))]
+    pub fn lent(&self) -> Result<&[u64], Refusal>
+        ensures refusal { number_in result ≡ cond (ltb most_events self.now.count) bad_list none }
+        ensures words { IfOk result (λ w. events_in w.now ≡ events_of self.now) }
+    {
+        refusal::check(self.count <= EVENTS, Refusal::BadList)?;
+        Ok(&self.words[..4 * self.count])
+    }
+}
+
 // ---- begin, interest and end by value
 
 #[tactic(auto, unfolding(crate::specs::Focus::begun_of), using(crate::proofs::Counted::too_many, crate::proofs::Counted::lent_events))]
@@ -47,10 +61,8 @@ pub fn begun(mut f: Focus, e: Events) -> Result<Focus, Refusal>
     ensures refusal { number_in result ≡ (begun_of f e).refusal }
     ensures focus { IfOk result (λ g. g ≡ (begun_of f e).focus) }
 {
-    if EVENTS < e.count {
-        return Err(Refusal::BadList);
-    }
-    f.nav = focus_pass::begin_pass(f.nav, &f.ids, &f.rects, f.count, &e.words[..4 * e.count])?;
+    let words = e.lent()?;
+    f.nav = focus_pass::begin_pass(f.nav, &f.ids, &f.rects, f.count, words)?;
     f.slot = 0;
     Ok(f)
 }
