@@ -53,14 +53,11 @@ fn event_of(kind: u64, code: u64, id: u64, flags: u64, modifiers: u64) -> Event
     }
 }
 
-// The event of the numbers of one. A code that is missing is past the last, and an id that is missing is 0.
+// The event of the numbers of one, whole or not. A code that is missing is past the last, and an id that is missing is 0.
 #[tactic(auto, unfolding(crate::specs::Events::event_at))]
 fn event(row: &[u64]) -> Event
     ensures { result ≡ event_at row.now 0 }
 {
-    if let &[kind, code, flags, modifiers] = row {
-        return event_of(kind, code, code, flags, modifiers);
-    }
     event_of(
         tables::at_or(row, 0, 0),
         tables::at_or(row, 1, MISSING),
@@ -83,7 +80,6 @@ fn check_events(words: &[u64]) -> Result<(), Refusal>
 }
 
 // What the events come to, or their lowest refusal, which is looked for only where one is refused: a lowest refusal so far would double the time of the loop.
-#[tactic(auto, using(crate::proofs::Events::worst_all, crate::proofs::Events::heard_through))]
 fn listen_to(words: &[u64], filter: EventFilter) -> Result<Heard, Refusal>
     ensures refusal { number_in result ≡ worst_of none (events_in words.now) }
     ensures heard { IfOk result (λ h. h ≡ heard_all filter nothing_heard (events_in words.now)) }
@@ -94,8 +90,15 @@ fn listen_to(words: &[u64], filter: EventFilter) -> Result<Heard, Refusal>
         asked: 0,
     };
     let mut refused = false;
-    for row in words.chunks(4) {
-        let event = event(row);
+    // The loop goes over whole events alone, so that it asks for no length.
+    let (whole, rest) = words.as_chunks::<4>();
+    for &[kind, code, flags, modifiers] in whole {
+        let event = event_of(kind, code, code, flags, modifiers);
+        refused |= event.check().is_err();
+        heard = navigation::heard(heard, filter, event);
+    }
+    if !rest.is_empty() {
+        let event = event(rest);
         refused |= event.check().is_err();
         heard = navigation::heard(heard, filter, event);
     }
