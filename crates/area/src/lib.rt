@@ -4,10 +4,11 @@
 ghost use Rattle.std.specs.Prelude.{◌≡◌, ℕ, ℤ, pos};
 ghost use Rattle.refusal.specs.Refusal.{none, number_in, lowest, answer};
 ghost use Rattle.floats.specs.Count.{at, count_of};
+ghost use Rattle.emath.specs.Rect.{contains_pos};
 ghost use Rattle.grid.specs.Grid.{pos_refusal};
 ghost use Rattle.area.specs.declared.AreaState.{AreaState};
 ghost use Rattle.area.specs.Area.{low_edge, high_edge};
-ghost use Rattle.area.specs.Area.{position_of, extent_of, to_factor, default_state, left_top, with_left_top, rect_of};
+ghost use Rattle.area.specs.Area.{position_of, extent_of, to_factor, default_state, left_top, with_left_top, rect_of, spans};
 ghost use Rattle.area.specs.Area.{pivot_pos_at, size_at, state_refusal};
 
 use emath::{Pos2, Rect, Vec2};
@@ -75,6 +76,14 @@ fn check_size(size: Option<Vec2>) -> Result<(), Refusal>
     size.map_or(Ok(()), |v| grid::size(v.x, v.y))
 }
 
+// Whether x is between a low edge and the edge of that size after it, both rounded.
+#[tactic(auto, unfolding(crate::specs::Area::spans))]
+fn spans(low: f32, size: f32, x: f32) -> bool
+    ensures { result ≡ spans low size x }
+{
+    gui_rounding::round_ui(low) <= x && x <= gui_rounding::round_ui(low + size)
+}
+
 impl AreaState {
     pub fn new() -> AreaState
         ensures { result ≡ default_state }
@@ -117,6 +126,16 @@ impl AreaState {
         ensures { result ≡ rect_of self }
     {
         Rect::from_min_size(self.left_top_unchecked(), extent(self.size)).round_ui()
+    }
+
+    // Whether a point is in that rectangle, edges included. An edge is rounded only where the point is not past the ones before it, as rounding takes most of the time.
+    #[tactic(auto, unfolding(crate::specs::Area::spans, crate::specs::Area::rect_of, emath::specs::Rect::contains_pos))]
+    pub fn contains_unchecked(self, pos: Pos2) -> bool
+        ensures { result ≡ contains_pos (rect_of self) pos }
+    {
+        let low = self.left_top_unchecked();
+        let size = extent(self.size);
+        spans(low.x, size.x, pos.x) && spans(low.y, size.y, pos.y)
     }
 
     pub fn left_top_pos(self) -> Result<Pos2, Refusal>

@@ -105,7 +105,7 @@ pub fn is_interactable(areas: AreaTable, layer: LayerId) -> Result<bool, Refusal
 fn hit_by(pos: Pos2, held: Option<AreaState>) -> bool
     ensures { result ≡ hit_by pos held }
 {
-    held.is_some_and(|s| s.interactable && s.rect_unchecked().contains(pos))
+    held.is_some_and(|s| s.interactable && s.contains_unchecked(pos))
 }
 
 // Whether the point hits the layer of a row.
