@@ -1,14 +1,14 @@
 -- AreaState of containers/area.rs (lines 18 to 88 of the Rust), without `last_became_visible_at` and `load`, in IEEE 754; Align::to_factor is emath's. Definitions only.
-use Rattle.std.specs.Prelude.{ℕ, zero, suc, ◌*◌, ℤ, pos, ◌+ℤ◌, ◌-ℤ◌, Bool, ◌&&◌, true, Float, Option, None, Some}
+use Rattle.std.specs.Prelude.{ℕ, zero, suc, ◌*◌, ℤ, pos, ◌+ℤ◌, ◌-ℤ◌, true, Float, Option, None, Some}
 use Rattle.std.specs.Float.{binary32}
-use Rattle.std.specs.Float.Ieee.{add, sub, mul, le, of_bits}
+use Rattle.std.specs.Float.Ieee.{add, sub, mul, of_bits}
 use Rattle.refusal.specs.Refusal.{lowest, code_refusal}
 use Rattle.refusal.specs.Limits.{last_pivot}
 use Rattle.floats.specs.Count.{half}
 use Rattle.emath.specs.declared.Pos2.{Pos2}
 use Rattle.emath.specs.declared.Vec2.{Vec2}
 use Rattle.emath.specs.declared.Rect.{Rect}
-use Rattle.gui_rounding.specs.GuiRounding.{round_ui, half_away}
+use Rattle.gui_rounding.specs.GuiRounding.{half_away}
 use Rattle.emath.specs.Pos2.{round_pos}
 use Rattle.emath.specs.Rect.{from_min_size, round_rect}
 use Rattle.grid.specs.Grid.{pivot_pos_refusal, size_refusal}
@@ -59,10 +59,6 @@ with_left_top s p = record {
 unfoldable pub rect_of : AreaState → Rect
 unfolding left_top
 rect_of s = round_rect (from_min_size (left_top s) (extent_of s.size))
-
--- whether x is between a low edge and the edge of that size after it, both rounded
-unfoldable pub spans : Float → Float → Float → Bool
-spans low size x = le (round_ui low) x && le x (round_ui (add binary32 low size))
 
 -- ---- the same in whole numbers, on one axis: a position of p 64ths, a pivot's code f, a size of n 32nds, and the edges in 32nds
 abbrev pub low_edge : ℤ → ℕ → ℕ → ℤ

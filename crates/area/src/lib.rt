@@ -8,7 +8,8 @@ ghost use Rattle.emath.specs.Rect.{contains_pos};
 ghost use Rattle.grid.specs.Grid.{pos_refusal};
 ghost use Rattle.area.specs.declared.AreaState.{AreaState};
 ghost use Rattle.area.specs.Area.{low_edge, high_edge};
-ghost use Rattle.area.specs.Area.{position_of, extent_of, to_factor, default_state, left_top, with_left_top, rect_of, spans};
+ghost use Rattle.area.specs.Area.{position_of, extent_of, to_factor, default_state, left_top, with_left_top, rect_of};
+ghost use Rattle.area.specs.Steps.{spans};
 ghost use Rattle.area.specs.Area.{pivot_pos_at, size_at, state_refusal};
 
 use emath::{Pos2, Rect, Vec2};
@@ -77,7 +78,7 @@ fn check_size(size: Option<Vec2>) -> Result<(), Refusal>
 }
 
 // Whether x is between a low edge and the edge of that size after it, both rounded.
-#[tactic(auto, unfolding(crate::specs::Area::spans))]
+#[tactic(auto, unfolding(crate::specs::Steps::spans))]
 fn spans(low: f32, size: f32, x: f32) -> bool
     ensures { result ≡ spans low size x }
 {
@@ -129,7 +130,7 @@ impl AreaState {
     }
 
     // Whether a point is in that rectangle, edges included. An edge is rounded only where the point is not past the ones before it, as rounding takes most of the time.
-    #[tactic(auto, unfolding(crate::specs::Area::spans, crate::specs::Area::rect_of, emath::specs::Rect::contains_pos))]
+    #[tactic(auto, unfolding(crate::specs::Steps::spans, crate::specs::Area::rect_of, emath::specs::Rect::contains_pos))]
     pub fn contains_unchecked(self, pos: Pos2) -> bool
         ensures { result ≡ contains_pos (rect_of self) pos }
     {

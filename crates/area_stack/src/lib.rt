@@ -128,7 +128,7 @@ pub fn layer_id_at(rows: LayerRows, areas: AreaTable, pos: Pos2) -> Option<Layer
     None
 }
 
-// ---- listings, in stack order
+// ---- listings, in stack order: the two loops differ in what they give of a row. One loop that is handed it as a closure would need a definition of its own, and laws that it is these two.
 
 // The first layer of a listing that stands at a row or after it, and the row after it. It refuses no layer: the caller asks for that.
 pub fn next_layer(rows: LayerRows, from: usize, listing: Listing) -> Option<(usize, LayerId)>

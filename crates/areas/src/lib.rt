@@ -100,7 +100,7 @@ impl Areas {
         ensures refusal { number_in result ≡ (to_top_of self layer).refusal }
         ensures areas { IfOk result (λ a. a ≡ (to_top_of self layer).areas) }
     {
-        // Read before the rows are lent: a record's other field is not taken beside one lent array, here and below.
+        // Read before the rows are lent, here and below: taken in the call itself, the proof of the loan did not close.
         let count = self.count;
         let count = layer_table::move_to_top(&mut self.rows, count, layer)?;
         Ok(Areas { count, ..self })
@@ -225,8 +225,8 @@ impl Areas {
         layer_queries::top_layer_id(self.stack(), order)
     }
 
-    // ---- listings, in stack order: each counts what it lists, as its answer says how many that are, so a `for` would have the count beside it too. A loop for all listings
-    // would be handed the next one as a closure, of which nobody could tell that it comes to an end.
+    // ---- listings, in stack order: each looks for the next from a place, and counts what it lists, as its answer says how many that are; a `for` would have the count beside it too. One loop for
+    // all listings would be handed the next one as a closure, and ask of it that it comes to an end: it would be no shorter than these.
 
     #[tactic(auto, using(crate::proofs::Listings::inside))]
     fn list(&self, listing: Listing) -> Layers

@@ -3,10 +3,11 @@
 
 ghost use Rattle.std.specs.Prelude.{◌≡◌, eqb, IfOk, cond, ltb};
 ghost use Rattle.refusal.specs.Refusal.{none, bad_list, number_in, answer, id_refusal};
-ghost use Rattle.refusal.specs.Limits.{events as most_events};
+ghost use Rattle.refusal.specs.Limits.{events as most_events, used as most_used};
 ghost use Rattle.focus_rules.specs.Rules.{id_or_nothing, layer_or_nothing};
 ghost use Rattle.focus_pass.specs.Events.{events_in};
-ghost use Rattle.focus.specs.Focus.{new_focus, events_of, begun_of, interested_of, ended_of, ignored_of, modal_set, requested, requested_next, surrendered, filter_set, moved};
+ghost use Rattle.used.specs.Used.{lent as entries_lent};
+ghost use Rattle.focus.specs.Focus.{new_focus, events_of, used_of, begun_of, interested_of, ended_of, ignored_of, modal_set, requested, requested_next, surrendered, filter_set, moved};
 
 use focus_rules::Nav;
 use input::EventFilter;
@@ -54,6 +55,20 @@ impl Events {
     }
 }
 
+impl Used {
+    // The entries, lent; more than the record has are refused.
+    pub fn lent(&self) -> Result<UsedEntries<'_>, Refusal>
+        ensures refusal { number_in result ≡ cond (ltb most_used self.now.count) bad_list none }
+        ensures entries { IfOk result (λ u. entries_lent u ≡ used_of self.now) }
+    {
+        refusal::check(self.count <= USED, Refusal::BadList)?;
+        Ok(UsedEntries {
+            ids: &self.ids[..self.count],
+            corners: &self.corners,
+        })
+    }
+}
+
 // ---- begin, interest and end by value
 
 #[tactic(auto, unfolding(crate::specs::Focus::begun_of), using(crate::proofs::Counted::too_many, crate::proofs::Counted::lent_events))]
@@ -86,20 +101,8 @@ pub fn ended(mut f: Focus, u: Used) -> Result<Focus, Refusal>
     ensures refusal { number_in result ≡ (ended_of f u).refusal }
     ensures focus { IfOk result (λ g. g ≡ (ended_of f u).focus) }
 {
-    if USED < u.count {
-        return Err(Refusal::BadList);
-    }
-    let end = focus_end::end_pass(
-        f.nav,
-        &mut f.ids,
-        &mut f.rects,
-        f.count,
-        UsedEntries {
-            ids: &u.ids[..u.count],
-            corners: &u.corners,
-        },
-        USED,
-    )?;
+    let used = u.lent()?;
+    let end = focus_end::end_pass(f.nav, &mut f.ids, &mut f.rects, f.count, used, USED)?;
     Ok(Focus {
         nav: end.nav,
         count: end.count,

@@ -1,5 +1,6 @@
 // `focus_widgets_cache` of `Focus` (memory/mod.rs), a map from ids to rectangles, in place on lent tables of any length: an entry for each id, in the order in
-// which they came. How many are held goes along by value. The calls change the tables, so they get the slices as C lends them, and so do the few that only read.
+// which they came. How many are held goes along by value. The calls change the tables, so they get the slices as C lends them; a struct for the few that only read would be made at
+// each call.
 //     ids:   the id
 //     rects: four numbers: left, top, right, bottom
 #![tactic(auto)]

@@ -1,5 +1,6 @@
 // `Focus::end_pass` and `find_widget_in_direction` of memory/mod.rs, in place: the used entries in lent slices (crate `used`), the cache in lent tables
-// (crate `focus_cache`). That no used id stands twice is asked of each function past the check, since a type for it would be made and taken apart at each.
+// (crate `focus_cache`). That no used id stands twice, and that each has its corners, is asked of the three functions past the check: a struct with the two facts as ghost fields would hold the
+// same two slices under another name.
 #![tactic(auto)]
 
 ghost use Rattle.std.specs.Prelude.{◌≡◌, false, ◌*◌, ◌≤◌, ◌<◌, length, get_or, IfOk};

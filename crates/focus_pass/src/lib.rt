@@ -126,9 +126,7 @@ pub fn begin_pass(
     ensures refusal { number_in result ≡ (begin_of nav (held_in count ids.now rects.now) (events_in events.now)).refusal }
     ensures nav { IfOk result (λ n. n ≡ (begin_of nav (held_in count ids.now rects.now) (events_in events.now)).nav) }
 {
-    if EVENTS < event_count(events) {
-        return Err(Refusal::BadList);
-    }
+    refusal::check(event_count(events) <= EVENTS, Refusal::BadList)?;
     let start = navigation::started(nav);
     let heard = listen_to(events, navigation::event_filter(start))?;
     let granted = is_granted(ids, rects, count, heard.asked);

@@ -9,7 +9,7 @@ use Rattle.grid.specs.Grid.{magnitude_of, corner_refusal}
 abbrev pub multiple_by : Float → Float → Bool
 multiple_by y far = eq (sub binary32 (add binary32 y far) far) y
 
--- the size is within the bound, and so many steps of it are whole, since from 2 ^ 23 on f32 has steps of 1
+-- the size is within the bound, and so many steps of it are whole, since from 2 ^ 23 to 2 ^ 24 f32 has steps of 1
 abbrev pub taken_by : Float → Float → Float → Bool
 taken_by x bound steps = le (magnitude_of x) bound && multiple_by (mul binary32 (magnitude_of x) steps) (of_bits binary32 0x4b00_0000)
 

@@ -11,14 +11,14 @@ ghost use Rattle.grid.specs.Steps.{multiple_by, taken_by, axis_taken};
 use emath::{Pos2, Rect};
 use refusal::Refusal;
 
-// x without its sign; -0.0 is left as it is.
+// x without its sign; -0.0 is left as it is, of which std's `abs` makes 0.0.
 pub fn magnitude(x: f32) -> f32
     ensures { result ≡ magnitude_of x }
 {
     if x < 0.0 { -x } else { x }
 }
 
-// f32 has steps of 1 from it on.
+// From it to twice it f32 has steps of 1.
 const WHOLE: f32 = 8388608.0;
 
 // f32 has steps of 1/32 around it.

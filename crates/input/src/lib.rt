@@ -1,5 +1,5 @@
 // The panel's input: egui's data/input (events, modifiers, the event filter), its key numbers, and what a key does to the focus.
-// Keys, modifiers and directions are codes, as document 01 has all kinds: any number may come; a match on a key has six single ones and a range, as the words ask. `matches` and `Event::check` refuse codes past the last of their kind; the functions on numbers below them are leaves, total for any number.
+// Keys, modifiers and directions are codes, as document 01 has all kinds: any number may come; a match on a key has six single ones and a range, as document 01's list of forms has it. `matches` and `Event::check` refuse codes past the last of their kind; the functions on numbers below them are leaves, total for any number.
 #![tactic(auto)]
 
 ghost use Rattle.std.specs.Prelude.{◌≡◌, cond};

@@ -36,11 +36,6 @@ is_listed (Children parent) r = is_child_row parent r
 unfoldable pub rank_in : List Row → LayerId → ℕ
 rank_in rows layer = cond (nat_lt (spot_in rows layer) (length rows)) (suc (spot_in rows layer)) 0
 
--- a place by its rank
-abbrev pub rank_of : Option ℕ → ℕ
-rank_of None = 0
-rank_of (Some k) = suc k
-
 abbrev pub compared : ℕ → ℕ → ℕ
 compared a b = cond (nat_lt a b) 0 (cond (nat_lt b a) 2 1)
 

@@ -8,7 +8,8 @@ ghost use Rattle.refusal.specs.Refusal.{lowest, code_refusal, number_in, answer}
 ghost use Rattle.refusal.specs.Limits.{last_order};
 ghost use Rattle.layers.specs.Layers.{layer_refusal};
 ghost use Rattle.layer_rows.specs.Rows.{lent, row_of};
-ghost use Rattle.layer_queries.specs.Queries.{is_child_row, is_window_row, is_listed, is_top_row, rank_of, rank_in, compared_by, shown_last, is_visible_row, is_sublayer_row, parent_in, last_of};
+ghost use Rattle.layer_queries.specs.Ranks.{rank_of};
+ghost use Rattle.layer_queries.specs.Queries.{is_child_row, is_window_row, is_listed, is_top_row, rank_in, compared_by, shown_last, is_visible_row, is_sublayer_row, parent_in, last_of};
 
 use layer_rows::{LayerRows, Row};
 use layers::{LayerId, NO_LAYER};
@@ -102,7 +103,7 @@ pub fn parent_layer(rows: LayerRows, layer: LayerId) -> Result<Option<LayerId>, 
     Ok(parent_of(rows.row_of(layer)))
 }
 
-// The last layer of an Order that is no sublayer.
+// The last layer of an Order that is no sublayer. `area_stack::layer_id_at` is the same search by another test: a function for both would be public, and it is not handed the test, as at `Listing`.
 #[tactic(auto, using(crate::proofs::Tops::none_left))]
 fn top(rows: LayerRows, order: u64) -> Option<LayerId>
     ensures { result ≡ last_of (is_top_row order) (lent rows.entry) }

@@ -37,6 +37,7 @@ pub fn new_row(layer: LayerId) -> Row
     }
 }
 
+// A row and its eight numbers are made from each other in one place each, here and in `put_row`.
 fn read(rows: &[u64], k: usize) -> Row
     requires { 8 * k + 8 ≤ length rows.now }
     ensures { result ≡ row_in rows.now k }
@@ -88,7 +89,7 @@ impl LayerRows<'_> {
         }
     }
 
-    // The place of a layer's row, or how many are held where it has none.
+    // The place of a layer's row, or the one at which it would be put: after those that are held.
     #[tactic(auto, using(crate::proofs::Rows::spot_over, crate::proofs::Rows::spot_found), unfolding(layers::specs::Layers::is_layer))]
     pub fn spot(self, layer: LayerId) -> usize
         ensures place { result ≡ spot_in (lent self.entry) layer }

@@ -77,7 +77,7 @@ pub fn move_to_top(rows: &mut [u64], count: usize, layer: LayerId) -> Result<usi
 
 // ---- `set_sublayer`
 
-// Whether some row's layer is a child of the layer: a loop that ends at the first.
+// Whether some row's layer is a child of the layer. Rows are read by their place, so `any` would be handed the places as the `for` is, and be no shorter.
 fn some_child(rows: LayerRows, layer: LayerId) -> bool
     ensures { result ≡ some (is_child_row layer) (lent rows.entry) }
 {

@@ -18,8 +18,7 @@ use focus::{Events, Focus, Used};
 use input::EventFilter;
 use layers::LayerId;
 use memory_rules::{Fields, Memory, Viewport};
-use refusal::{EVENTS, Refusal, USED};
-use used::UsedEntries;
+use refusal::Refusal;
 
 pub fn new() -> Memory
     ensures { result ≡ new_memory }
@@ -92,18 +91,11 @@ pub fn done(m: Memory, called: Result<Fields, Refusal>) -> Result<Memory, Refusa
 pub fn begin_pass(m: Memory, e: Events) -> Result<Memory, Refusal>
     ensures { done m result ≡ begun_of m (events_of e) }
 {
-    if EVENTS < e.count {
-        return Err(Refusal::BadList);
-    }
+    let events = e.lent()?;
     let focus = &m.viewport.focus;
     done(
         m,
-        memory_core::begin_pass(
-            fields_of(m),
-            &focus.ids,
-            &focus.rects,
-            &e.words[..4 * e.count],
-        ),
+        memory_core::begin_pass(fields_of(m), &focus.ids, &focus.rects, events),
     )
 }
 
@@ -138,18 +130,13 @@ pub fn ignore_focus(mut m: Memory, id: u64) -> Result<Memory, Refusal>
 pub fn end_pass(mut m: Memory, u: Used) -> Result<Memory, Refusal>
     ensures { done m result ≡ ended_of m (used_in u) }
 {
-    if USED < u.count {
-        return Err(Refusal::BadList);
-    }
+    let used = u.lent()?;
     let ended = memory_core::end_pass(
         fields_of(m),
         &mut m.viewport.areas.rows,
         &mut m.viewport.focus.ids,
         &mut m.viewport.focus.rects,
-        UsedEntries {
-            ids: &u.ids[..u.count],
-            corners: &u.corners,
-        },
+        used,
     );
     done(m, ended)
 }

@@ -10,7 +10,8 @@ use emath::Pos2;
 use focus::Focus;
 use focus_rules::Nav;
 
-// OpenPopup, where its id is not 0: its position, and whether it was opened or kept in this pass.
+// OpenPopup, where its id is not 0: its position, and whether it was opened or kept in this pass. Id 0 is none, as everywhere: an Option would have a second none, an open popup of id 0, which
+// egui cannot have.
 #[derive(Clone, Copy)]
 pub struct Popup {
     pub id: u64,

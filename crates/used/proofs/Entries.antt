@@ -5,14 +5,14 @@ use native.Mathlib.Decide.{dec_lt}
 use native.Mathlib.Nat.{not-suc-le-zero, le_of_suc-le-suc, zero-add}
 use native.Mathlib.Numerals.{add-one}
 use native.Mathlib.Omega.{arith}
-use mathlib.Core.Bool.{Bool, true, false, cond, true≢false}
+use mathlib.Core.Bool.{Bool, true, false, cond, true≢false, not}
 use mathlib.Core.List.{List, [], ◌∷◌}
 use lib.Dec.{ltb}
 use lib.Ieee.{Float}
 use lib.ListN.{length, get_or, drop, drop_of_length-le}
 use borrow.Author.Tests.{lt-ltb, le-ltb}
 use Rattle.refusal.specs.Refusal.{none, bad_list, lowest, id_refusal}
-use Rattle.refusal.proofs.Laws.{none_right, both_none}
+use Rattle.refusal.proofs.Laws.{both_none}
 use Rattle.grid.specs.Grid.{rect_refusal}
 use Rattle.search.specs.declared.Candidate.{Candidate}
 use Rattle.used.specs.Used.{rect_from, entries_from, entries_in, ids_of, repeated, entry_refusal, worst_of, used_refusal}
@@ -76,11 +76,12 @@ module _ (ids : List ℕ) (corners : List Float) where
       unfolding used_refusal
       counted u f = rw (entries_length, le-ltb limit (length ids) h, entries_ids, ← p, ← e, f)
 
-      pub repeated_too : t ≡ true → (r : ℕ) → r ≡ lowest n bad_list → r ≡ used_refusal limit (entries_in ids corners)
-      repeated_too f r q = q ∙ sym (counted true f)
-
-      pub only_entries : t ≡ false → n ≡ used_refusal limit (entries_in ids corners)
-      only_entries f = none_right n none refl ∙ sym (counted false f)
+      pub both_told : (d : ℕ) → d ≡ cond (not t) none bad_list → (r : ℕ) → r ≡ lowest n d → r ≡ used_refusal limit (entries_in ids corners)
+      both_told d a r q = q ∙ ap (lowest n) a ∙ go t refl
+        where
+          go : (u : Bool) → t ≡ u → lowest n (cond (not u) none bad_list) ≡ used_refusal limit (entries_in ids corners)
+          go true f = sym (counted true f)
+          go false f = sym (counted false f)
 
 -- ---- what it means that the entries are taken
 worst_none : (n : ℕ) (entries : List Candidate) → worst_of n entries ≡ 0 → n ≡ 0

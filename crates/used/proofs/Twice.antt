@@ -9,7 +9,7 @@ use mathlib.Core.List.{List, [], ◌∷◌}
 use lib.Arith.{bin_ind, digits_mod}
 use lib.Bits.{bit_or, or_step, or_comm, or_self, or_shr}
 use lib.Dec.{eqb}
-use lib.ListN.{length, get_or, take, set, replicate, length-set, length-take}
+use lib.ListN.{length, get_or, take, set, length-set, length-take}
 use lib.Seq.{get_or-take, get_or-set_same, get_or-set_other}
 use borrow.Author.Tests.{eq-eqb, ne_eqb, eqb-true, eqb-false}
 use Rattle.std.specs.List.{IsAnyAnswer}

@@ -66,18 +66,12 @@ impl UsedEntries<'_> {
     }
 
     // Whether a pass that ends with these entries is taken; too many are refused before anything else, and then the lowest refusal is told.
-    #[tactic(auto, using(crate::proofs::Entries::too_many, crate::proofs::Entries::repeated_too, crate::proofs::Entries::only_entries))]
+    #[tactic(auto, using(crate::proofs::Entries::too_many, crate::proofs::Entries::both_told))]
     pub fn check(self, limit: usize) -> Result<(), Refusal>
         ensures { number_in result ≡ used_refusal limit (lent self.entry) }
     {
-        if limit < self.ids.len() {
-            return Err(Refusal::BadList);
-        }
-        let entries = self.check_entries();
-        if repeats(self.ids) {
-            refusal::both(entries, Err(Refusal::BadList))
-        } else {
-            entries
-        }
+        refusal::check(self.ids.len() <= limit, Refusal::BadList)?;
+        let distinct = refusal::check(!repeats(self.ids), Refusal::BadList);
+        refusal::both(self.check_entries(), distinct)
     }
 }

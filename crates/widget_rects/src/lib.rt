@@ -128,7 +128,8 @@ impl WidgetRects {
         widget_queries::contains(self.table(), id)
     }
 
-    // The widgets of a layer that is not refused. They are counted, as the answer says how many they are: a `for` would have the count beside it too.
+    // The widgets of a layer that is not refused. Each is looked for from a place, and counted, as the answer says how many they are: a `for` would have the count beside it too; one loop for
+    // these and the listings of `areas` would be handed the next as a closure, and be no shorter.
     fn list(&self, layer: LayerId) -> Listing
         ensures { result ≡ listing (list_of (table_of self.now) layer) }
     {

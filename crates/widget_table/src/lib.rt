@@ -1,6 +1,6 @@
 // WidgetRects of widget_rect.rs, changed in place on lent tables of any length: `insert` and `clear`. Crate `widget_rows` says what stands in the tables, and
-// reads them. How many rows are held goes along by value. The three tables go to each function as they are lent: a struct of tables that change would be lent anew, field by field,
-// at each call, and how many rows fit would still stand in each contract.
+// reads them. How many rows are held goes along by value. The tables go to each function as they are lent: with a struct of tables that change each
+// function would have to promise that they stay the ones that were lent, and how many rows fit would still stand in each contract.
 #![tactic(auto)]
 
 ghost use Rattle.std.specs.Prelude.{◌≡◌, ◌+◌, ◌-◌, ◌*◌, ◌≤◌, ◌<◌, length, IfOk};
