@@ -3,10 +3,10 @@
 #![tactic(auto)]
 
 ghost use Rattle.std.specs.Prelude.{◌≡◌, IfOk};
+ghost use Rattle.std.specs.Result.{result_unwrap_or};
 ghost use Rattle.refusal.specs.Refusal.{number_in, id_refusal, code_refusal, kept};
 ghost use Rattle.refusal.specs.Limits.{last_direction};
 ghost use Rattle.layers.specs.Layers.{layer_refusal};
-ghost use Rattle.focus_rules.specs.declared.After.{After};
 ghost use Rattle.focus_rules.specs.Rules.{focus_on, with_next, let_go, filtered_of, with_direction, with_modals};
 ghost use Rattle.focus_cache.specs.Cache.{room_in, held_in, enlisted, without, cache_in, cache_on};
 ghost use Rattle.focus_pass.specs.Events.{events_in};
@@ -58,9 +58,8 @@ fn after(nav: Nav, answer: Result<Nav, Refusal>) -> Changed
 }
 
 // And of one that may change the cache, which held so many entries.
-fn counted(before: After, answer: Result<After, Refusal>) -> Counted
-    ensures refusal { result.refusal ≡ number_in answer }
-    ensures after { (next : After) → IfOk answer (λ a. a ≡ next) → (result.nav ≡ kept (number_in answer) before.nav next.nav) × (result.count ≡ kept (number_in answer) before.count next.count) }
+fn after_in_cache(before: After, answer: Result<After, Refusal>) -> Counted
+    ensures { (result.refusal ≡ number_in answer) × (result.nav ≡ (result_unwrap_or answer before).nav) × (result.count ≡ (result_unwrap_or answer before).count) }
 {
     let refusal = refusal::number(&answer);
     let After { nav, count } = answer.unwrap_or(before);
@@ -127,7 +126,7 @@ pub extern "C" fn jaturemi_ignore_focus(
     ensures cache { cache_in ids.new rects.new ≡ kept result.refusal (cache_in ids.old rects.old) (cache_on (cache_in ids.old rects.old) (without (held_in count ids.old rects.old) id)) }
 {
     let answer = focus_pass::ignore_focus(nav, ids, rects, count, id);
-    counted(After { nav, count }, answer)
+    after_in_cache(After { nav, count }, answer)
 }
 
 // `focus_end::end_pass`.
@@ -147,7 +146,7 @@ pub extern "C" fn jaturemi_end_focus_pass(
 {
     let used = UsedEntries { ids: used, corners };
     let answer = focus_end::end_pass(nav, ids, rects, count, used, limit);
-    counted(After { nav, count }, answer)
+    after_in_cache(After { nav, count }, answer)
 }
 
 // ---- the calls on the fields, by value

@@ -1,0 +1,2 @@
+-- Laws that the proofs of the board's functions share.
+pub mod Inserts
