@@ -2,6 +2,7 @@
 use crate::outcome::{Outcome, say};
 use area::{Align2, AreaState, PivotPos};
 use emath::{Pos2, Rect, Vec2};
+use refusal::Refusal;
 use std::io;
 
 fn corners(rt: &impl Print) -> io::Result<()> {
@@ -89,8 +90,9 @@ fn area_at(x: f32, code: u64, width: f32, y: f32) -> AreaState {
     }
 }
 
+// Coordinate by coordinate, since emath derives no `==` for `Pos2`.
 fn is_at(p: Pos2, x: f32, y: f32) -> Outcome {
-    if p.x == x && p.y == y {
+    if (p.x, p.y) == (x, y) {
         Outcome::Taken
     } else {
         Outcome::Elsewhere
@@ -98,27 +100,18 @@ fn is_at(p: Pos2, x: f32, y: f32) -> Outcome {
 }
 
 // Whether the left top is at (x, y).
-fn left_top(s: AreaState, x: f32, y: f32) -> Outcome {
-    match s.left_top_pos() {
-        Ok(p) => is_at(p, x, y),
-        Err(n) => Outcome::from(n),
-    }
+fn left_top(s: AreaState, x: f32, y: f32) -> Result<Outcome, Refusal> {
+    Ok(is_at(s.left_top_pos()?, x, y))
 }
 
 // Whether the right bottom is at (x, y).
-fn right_bottom(s: AreaState, x: f32, y: f32) -> Outcome {
-    match s.rect() {
-        Ok(r) => is_at(r.max, x, y),
-        Err(n) => Outcome::from(n),
-    }
+fn right_bottom(s: AreaState, x: f32, y: f32) -> Result<Outcome, Refusal> {
+    Ok(is_at(s.rect()?.max, x, y))
 }
 
 // Whether the left top is at (x, y) after it was set there.
-fn moved(s: AreaState, x: f32, y: f32) -> Outcome {
-    match s.set_left_top_pos(Pos2 { x, y }) {
-        Ok(t) => left_top(t, x, y),
-        Err(n) => Outcome::from(n),
-    }
+fn moved(s: AreaState, x: f32, y: f32) -> Result<Outcome, Refusal> {
+    left_top(s.set_left_top_pos(Pos2 { x, y })?, x, y)
 }
 
 fn areas(rt: &impl Print) -> io::Result<()> {

@@ -8,16 +8,9 @@ mod registry;
 mod searches;
 mod stack;
 
-use crate::outcome::{Outcome, say};
+use crate::outcome::say;
 use input::{Event, EventFilter};
 use std::io;
-
-fn matched(event: Event) -> Outcome {
-    match EventFilter::new().matches(event) {
-        Ok(is) => Outcome::Is(is),
-        Err(n) => Outcome::from(n),
-    }
-}
 
 // A key and its modifiers by their codes.
 fn press(key: u64, modifiers: u64) -> Event {
@@ -42,7 +35,7 @@ fn keys(rt: &impl Print) -> io::Result<()> {
         ("pointer at NaN", Event::Pointer(f32::NAN, 0.0)),
     ];
     for (text, event) in cases {
-        say(rt, text, matched(event))?;
+        say(rt, text, EventFilter::new().matches(event))?;
     }
     Ok(())
 }

@@ -10,18 +10,19 @@ pub enum Outcome {
     Refused(Refusal),
 }
 
-impl From<Refusal> for Outcome {
-    fn from(refusal: Refusal) -> Outcome {
-        Outcome::Refused(refusal)
+impl<T: Into<Outcome>> From<Result<T, Refusal>> for Outcome {
+    fn from(called: Result<T, Refusal>) -> Outcome {
+        match called {
+            Ok(value) => value.into(),
+            Err(refusal) => Outcome::Refused(refusal),
+        }
     }
 }
 
-impl From<Result<(), Refusal>> for Outcome {
-    fn from(checked: Result<(), Refusal>) -> Outcome {
-        match checked {
-            Ok(()) => Outcome::Taken,
-            Err(refusal) => Outcome::from(refusal),
-        }
+// A call that has no value.
+impl From<()> for Outcome {
+    fn from(_: ()) -> Outcome {
+        Outcome::Taken
     }
 }
 
@@ -60,5 +61,5 @@ pub fn say_list(
 
 // The last of the first n.
 pub fn last<T: Copy>(xs: &[T], n: usize) -> Option<T> {
-    xs.get(n.checked_sub(1)?).copied()
+    xs.get(..n)?.last().copied()
 }

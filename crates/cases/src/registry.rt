@@ -1,6 +1,6 @@
 // The registry at its limit of 256 widgets, by value: what each insert answers, and how many a layer then lists.
 use crate::outcome::{last, say_list};
-use emath::{Pos2, Rect};
+use emath::Rect;
 use layers::LayerId;
 use refusal::{Refusal, WIDGETS};
 use std::io;
@@ -10,11 +10,7 @@ use widget_rects::WidgetRects;
 const LAYER: LayerId = LayerId { order: 1, id: 7 };
 
 fn widget(id: u64) -> WidgetRect {
-    let corner = Pos2 { x: 0.0, y: 0.0 };
-    let rect = Rect {
-        min: corner,
-        max: corner,
-    };
+    let rect = Rect::from([0.0; 4]);
     WidgetRect {
         id,
         parent_id: 9,
@@ -27,16 +23,14 @@ fn widget(id: u64) -> WidgetRect {
     }
 }
 
+// `move_to_top` is a parameter of egui's own `insert`.
 fn insert(widgets: WidgetRects, id: u64, move_to_top: bool) -> Result<WidgetRects, Refusal> {
     widgets.insert(LAYER, widget(id), move_to_top)
 }
 
 // Inserts the ids from 1 to 256.
-fn filled(mut widgets: WidgetRects) -> Result<WidgetRects, Refusal> {
-    for id in 0..WIDGETS as u64 {
-        widgets = insert(widgets, id + 1, false)?;
-    }
-    Ok(widgets)
+fn filled(widgets: WidgetRects) -> Result<WidgetRects, Refusal> {
+    (1..=WIDGETS as u64).try_fold(widgets, |held, id| insert(held, id, false))
 }
 
 // What an insert into `before` answers, and how many widgets the layer then lists.

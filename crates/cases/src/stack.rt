@@ -16,11 +16,7 @@ fn show(areas: Areas, id: u64) -> Result<Areas, Refusal> {
 
 // Shows the layers from 1 to n.
 fn filled(n: u64) -> Result<Areas, Refusal> {
-    let mut areas = Areas::new();
-    for id in 0..n {
-        areas = show(areas, id + 1)?;
-    }
-    Ok(areas)
+    (1..=n).try_fold(Areas::new(), show)
 }
 
 // What a call on `before` answers, and how many layers the stack then has.
