@@ -4,7 +4,8 @@ use std::alloc::{AllocError, Global};
 // Room for an answer.
 const ROOM: usize = 262144;
 
-// The bytes, and the place after those that are put: past their end where the answer does not fit.
+// The bytes, and the place after those that are put: past their end where the answer does not fit. The `Vec`'s own length would be no plainer: crate `text`
+// puts at a place of a lent slice and says by the place that something did not fit, so beside the `Vec` a flag would stand, and each number be put elsewhere first.
 #[derive(Drop)]
 pub struct Answer {
     bytes: Vec<u8>,

@@ -2,7 +2,7 @@
 use crate::answer::Answer;
 use crate::forms::Put;
 use area::PivotPos;
-use areas::{Layers, Windows};
+use areas::{Layers, Window, Windows};
 use emath::{Pos2, Vec2};
 
 pub fn pivot_pos(pos: Option<Pos2>) -> PivotPos {
@@ -27,22 +27,29 @@ pub fn put_pivot_pos(pos: PivotPos, answer: &mut Answer) {
     }
 }
 
-// How many, and each.
-impl Put for Layers {
-    fn put(self, answer: &mut Answer) {
-        self.count.put(answer);
-        for layer in self.layers.iter().take(self.count) {
-            layer.put(answer);
-        }
+// How many of an array are listed, and each.
+pub fn put_listed<T: Put + Copy>(n: usize, items: &[T], answer: &mut Answer) {
+    n.put(answer);
+    for item in items.iter().take(n) {
+        item.put(answer);
     }
 }
 
-// How many, and each: egui's pairs, of which the protocol shows the layer.
+impl Put for Layers {
+    fn put(self, answer: &mut Answer) {
+        put_listed(self.count, &self.layers, answer);
+    }
+}
+
 impl Put for Windows {
     fn put(self, answer: &mut Answer) {
-        self.count.put(answer);
-        for window in self.windows.iter().take(self.count) {
-            window.layer.put(answer);
-        }
+        put_listed(self.count, &self.windows, answer);
+    }
+}
+
+// egui's pair, of which the protocol shows the layer.
+impl Put for Window {
+    fn put(self, answer: &mut Answer) {
+        self.layer.put(answer);
     }
 }

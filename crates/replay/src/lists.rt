@@ -1,7 +1,5 @@
 // `begin` and `end`, which carry a list.
-use crate::answer::Answer;
-use crate::memory_calls::change;
-use crate::words::Words;
+use crate::line::Line;
 use focus::{Events, Used};
 use input::Event;
 use memory_rules::Memory;
@@ -27,36 +25,38 @@ fn numbers(event: Event) -> [u64; 4] {
 }
 
 // `begin N EVENT..`: of more events than there is room for only their number counts.
-pub fn begin(words: &mut Words, m: &mut Memory, answer: &mut Answer) -> Option<()> {
-    let count = words.number()? as usize;
+pub fn begin(line: &mut Line, m: &mut Memory) -> Option<()> {
+    let count = line.words.number()? as usize;
     let mut events = Events {
         words: [0; 4 * EVENTS],
         count,
     };
+    let (rows, _) = events.words.as_chunks_mut::<4>();
     for i in 0..count {
-        let event = words.event()?;
-        if i < EVENTS {
-            events.words[4 * i..4 * i + 4].copy_from_slice(&numbers(event));
+        let event = line.words.event()?;
+        if let Some(row) = rows.get_mut(i) {
+            *row = numbers(event);
         }
     }
-    change(words, m, answer, |m| memory::begin_pass(m, events))
+    line.change(m, |m| memory::begin_pass(m, events))
 }
 
 // `end N (ID X0 Y0 X1 Y1)..`: likewise.
-pub fn end(words: &mut Words, m: &mut Memory, answer: &mut Answer) -> Option<()> {
-    let count = words.number()? as usize;
+pub fn end(line: &mut Line, m: &mut Memory) -> Option<()> {
+    let count = line.words.number()? as usize;
     let mut used = Used {
         ids: [0; USED],
         corners: [0.0; 4 * USED],
         count,
     };
+    let (corners, _) = used.corners.as_chunks_mut::<4>();
     for i in 0..count {
-        let id = words.number()?;
-        let rect = words.rect()?;
-        if i < USED {
-            used.ids[i] = id;
-            used.corners[4 * i..4 * i + 4].copy_from_slice(&<[f32; 4]>::from(rect));
+        let id = line.words.number()?;
+        let rect = line.words.rect()?;
+        if let (Some(held), Some(row)) = (used.ids.get_mut(i), corners.get_mut(i)) {
+            *held = id;
+            *row = rect.into();
         }
     }
-    change(words, m, answer, |m| memory::end_pass(m, used))
+    line.change(m, |m| memory::end_pass(m, used))
 }

@@ -4,6 +4,7 @@
 mod answer;
 mod forms;
 mod library;
+mod line;
 mod lists;
 mod memory_calls;
 mod registry;
@@ -25,6 +26,7 @@ fn main(rt: HostRuntime) -> io::Result<()> {
     let mut session = Session::new();
     let mut answer = Answer::new(rt.alloc())?;
     let mut line = Vec::new(rt.alloc());
+    // A count, since every loop is proved to end.
     for _ in 0..u64::MAX {
         line.clear();
         if input.read_until(b'\n', &mut line)? == 0 {

@@ -1,7 +1,7 @@
 // What the calls leave: the memory and the registry.
 use crate::answer::Answer;
+use crate::line::Line;
 use crate::registry::Registry;
-use crate::words::Words;
 use crate::{lists, memory_calls, state};
 use memory_rules::Memory;
 
@@ -22,7 +22,7 @@ impl Session {
     // What a line is answered: `bad` where it does not fit the protocol, or its answer the room.
     pub fn answer(&mut self, line: &[u8], answer: &mut Answer) {
         answer.clear();
-        let called = self.call(line, answer);
+        let called = self.call(&mut Line::of(line, answer));
         answer.end_line();
         if called.is_none() || !answer.fits() {
             answer.clear();
@@ -32,33 +32,31 @@ impl Session {
     }
 
     // None is a line that does not fit the protocol. It changes nothing.
-    fn call(&mut self, line: &[u8], answer: &mut Answer) -> Option<()> {
-        let mut words = Words::of(line);
-        let name = words.name();
-        match name {
+    fn call(&mut self, line: &mut Line) -> Option<()> {
+        match line.name {
             b"new" => {
-                words.end()?;
+                line.words.end()?;
                 self.memory = memory::new();
                 self.registry.clear();
-                answer.word(b"ok");
+                line.answer.word(b"ok");
                 Some(())
             }
-            b"begin" => lists::begin(&mut words, &mut self.memory, answer),
-            b"end" => lists::end(&mut words, &mut self.memory, answer),
+            b"begin" => lists::begin(line, &mut self.memory),
+            b"end" => lists::end(line, &mut self.memory),
             b"insert"
             | b"clear"
             | b"order"
             | b"widget"
             | b"contains"
             | b"get_layer"
-            | b"focusable_widgets_in_layer" => self.registry.call(name, &mut words, answer),
+            | b"focusable_widgets_in_layer" => self.registry.call(line),
             b"state" => {
-                words.end()?;
-                state::put_memory(&self.memory, answer);
-                self.registry.put_state(answer);
+                line.words.end()?;
+                state::put_memory(&self.memory, line.answer);
+                self.registry.put_state(line.answer);
                 Some(())
             }
-            _ => memory_calls::call(name, &mut words, &mut self.memory, answer),
+            _ => memory_calls::call(line, &mut self.memory),
         }
     }
 }

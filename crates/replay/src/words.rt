@@ -24,7 +24,7 @@ impl<'a> Words<'a> {
     }
 
     // The end of the line.
-    pub fn end(&self) -> Option<()> {
+    pub fn end(self) -> Option<()> {
         (self.at == self.line.len()).then_some(())
     }
 
