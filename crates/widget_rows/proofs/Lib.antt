@@ -1,3 +1,4 @@
 -- Laws that the proofs share.
+pub mod Chunked
 pub mod Lists
 pub mod Places

@@ -2,15 +2,14 @@
 use mathlib.Core.Path.{◌≡◌, refl}
 use mathlib.Core.Bool.{Bool, true, false, cond}
 use mathlib.Core.List.{List, ◌++◌, append_assoc}
-use Prim.Native.Nat.{ℕ, zero, suc, ◌+◌, ◌-◌, ◌*◌, ◌/◌, ◌<◌, ◌≤◌}
-use native.Mathlib.Nat.{sub-zero}
+use Prim.Native.Nat.{ℕ, zero, suc, ◌+◌, ◌-◌, ◌*◌, ◌<◌, ◌≤◌}
 use native.Mathlib.Numerals.{add-one}
 use native.Mathlib.Omega.{arith}
 use lib.ListN.{length, set, take, drop, length-set, length-append, length-take, length-drop, take-append-drop}
 use lib.Seq.{take-add, drop-drop, take-set-le, drop-set-lt, drop-set-add, get_or-drop}
 use Rattle.layers.specs.declared.LayerId.{LayerId}
 use Rattle.std.specs.Prelude.{None, Some}
-use Rattle.widget_rows.specs.Rows.{Rows, is_in, index_at, record_at, listed_in, one_more, one_less, next_index, lowered_at, renumbered_rows, renumbered}
+use Rattle.widget_rows.specs.Rows.{Rows, is_in, index_at, record_at, listed_in, one_more, one_less, next_index, lowered_at, renumbered_rows}
 
 -- ---- the index after the last, from row k down
 pub next_hit : (words : List ℕ) (k : ℕ) (layer : LayerId) → 0 < k → is_in words (k - 1) layer ≡ true → next_index words k layer ≡ one_more (index_at words (k - 1))

@@ -18,75 +18,76 @@ use widget_rect::WidgetRect;
 
 // ---- rows
 
-fn layer(words: &[u64], k: usize) -> LayerId
-    requires { 10 * k + 10 ≤ length words.now }
-    ensures { result ≡ layer_at words.now k }
+fn layer(row: &[u64; 10]) -> LayerId
+    ensures { result ≡ layer_at row.now 0 }
 {
     LayerId {
-        order: words[10 * k + 1],
-        id: words[10 * k + 2],
+        order: row[1],
+        id: row[2],
     }
 }
 
 #[tactic(auto, unfolding(crate::specs::Rows::is_in, layers::specs::Layers::is_layer))]
-fn is_in(words: &[u64], k: usize, layer_id: LayerId) -> bool
-    requires { 10 * k + 10 ≤ length words.now }
-    ensures { result ≡ is_in words.now k layer_id }
+fn is_in(row: &[u64; 10], layer_id: LayerId) -> bool
+    ensures { result ≡ is_in row.now 0 layer_id }
 {
-    layer(words, k) == layer_id
+    layer(row) == layer_id
 }
 
 #[tactic(auto, unfolding(crate::specs::Rows::index_at))]
-fn index(words: &[u64], k: usize) -> u64
-    requires { 10 * k + 10 ≤ length words.now }
-    ensures { result ≡ index_at words.now k }
+fn index(row: &[u64; 10]) -> u64
+    ensures { result ≡ index_at row.now 0 }
 {
-    words[10 * k + 3]
+    row[3]
 }
 
-// A half of row k as a record.
+// A half of row k as a record. The half is a number, 0 or 1, and no kind of its own, as it is a factor of the place in the row.
 fn read_half(ids: &[u64], words: &[u64], rects: &[f32], k: usize, half: usize) -> WidgetRect
     requires { (k < length ids.now) × (10 * k + 10 ≤ length words.now) × (16 * k + 16 ≤ length rects.now) × (half ≤ 1) }
     ensures { result ≡ record_at (rows_in ids.now words.now rects.now) k half }
 {
-    let look = 10 * k + 4 + 3 * half;
+    let row = &words.as_chunks::<10>().0[k];
+    let look = 4 + 3 * half;
     let (rects, _) = rects.as_chunks::<4>();
     let at = 4 * k + 2 * half;
     WidgetRect {
         id: ids[k],
-        parent_id: words[10 * k],
-        layer_id: layer(words, k),
+        parent_id: row[0],
+        layer_id: layer(row),
         rect: Rect::from(rects[at]),
         interact_rect: Rect::from(rects[at + 1]),
-        sense: words[look],
-        enabled: words[look + 1] != 0,
-        visible: words[look + 2] != 0,
+        sense: row[look],
+        enabled: row[look + 1] != 0,
+        visible: row[look + 2] != 0,
     }
 }
 
 // ---- the lists of the layers
 
 // The index after the last of the layer's list, among the first n rows, or among all where they are fewer.
-#[tactic(auto, using(crate::proofs::Lists::next_hit, crate::proofs::Lists::next_miss), unfolding(crate::specs::Rows::next_index))]
+#[tactic(auto, using(crate::proofs::Lists::next_hit, crate::proofs::Lists::next_miss, crate::proofs::Chunked::chunk_in, crate::proofs::Chunked::chunk_index), unfolding(crate::specs::Rows::next_index))]
 pub fn next_index(words: &[u64], n: usize, layer: LayerId) -> u64
     ensures { result ≡ next_index words.now (min n (length words.now / 10)) layer }
 {
-    for k in (0..n.min(words.len() / 10)).rev() {
-        if is_in(words, k, layer) {
-            return index(words, k).saturating_add(1);
+    let (rows, _) = words.as_chunks::<10>();
+    for k in (0..n.min(rows.len())).rev() {
+        let row = &rows[k];
+        if is_in(row, layer) {
+            return index(row).saturating_add(1);
         }
     }
     0
 }
 
-// The index of row k is one less, if the row is of the layer.
-#[tactic(auto, unfolding(crate::specs::Rows::lowered_at))]
+// The index of row k is one less, if the row is of the layer. It is written at its place in the tail, since std's `as_chunks_mut` says nothing of what the slice ends as.
+#[tactic(auto, using(crate::proofs::Chunked::chunk_in, crate::proofs::Chunked::chunk_index), unfolding(crate::specs::Rows::lowered_at))]
 fn lower(tail: &mut [u64], k: usize, layer: LayerId)
     requires { 10 * k + 10 ≤ length tail.old }
     ensures { tail.new ≡ lowered_at tail.old k layer }
 {
-    if is_in(tail, k, layer) {
-        tail[10 * k + 3] = index(tail, k).saturating_sub(1);
+    let row = &tail.as_chunks::<10>().0[k];
+    if is_in(row, layer) {
+        tail[10 * k + 3] = index(row).saturating_sub(1);
     }
 }
 
@@ -183,24 +184,25 @@ impl WidgetTable<'_> {
     }
 
     // by_id.get: the index in the list of its layer, and the record.
-    #[tactic(auto, unfolding(crate::specs::Rows::entry_of))]
+    #[tactic(auto, using(crate::proofs::Places::found_fits, crate::proofs::Chunked::chunk_index), unfolding(crate::specs::Rows::entry_of))]
     pub fn get(self, id: u64) -> Option<(u64, WidgetRect)>
         ensures { result ≡ entry_of (lent self.entry) id }
     {
         let k = self.find(id)?;
         Some((
-            index(self.words, k),
+            index(&self.words.as_chunks::<10>().0[k]),
             read_half(self.ids, self.words, self.rects, k, 0),
         ))
     }
 
     // The first widget of the layer's list that stands at a row or after it, with the row after its own.
-    #[tactic(auto, using(crate::proofs::Lists::listed_hit, crate::proofs::Lists::listed_miss, crate::proofs::Lists::listed_end), unfolding(crate::specs::Rows::held_in, crate::specs::Rows::room_of))]
+    #[tactic(auto, using(crate::proofs::Lists::listed_hit, crate::proofs::Lists::listed_miss, crate::proofs::Lists::listed_end, crate::proofs::Chunked::chunk_in), unfolding(crate::specs::Rows::held_in, crate::specs::Rows::room_of))]
     pub fn next_in_layer(self, from: usize, layer: LayerId) -> Option<(usize, WidgetRect)>
         ensures { result ≡ listed_in (lent self.entry).rows layer (held_of (lent self.entry) - from) from }
     {
+        let (rows, _) = self.words.as_chunks::<10>();
         for k in from..self.held() {
-            if is_in(self.words, k, layer) {
+            if is_in(&rows[k], layer) {
                 return Some((k + 1, read_half(self.ids, self.words, self.rects, k, 1)));
             }
         }

@@ -16,7 +16,8 @@ use widget_rows::WidgetTable;
 
 // ---- the numbers of a row
 
-// Puts what the halves of row k do not share.
+// Puts what the halves of row k do not share. The half is a number, 0 or 1, as it is a factor of the place in the row. The rows are written at places in
+// the tables, since std's `as_chunks_mut` says nothing of what the slice ends as.
 fn put_half(words: &mut [u64], rects: &mut [f32], k: usize, half: usize, w: WidgetRect)
     requires { (10 * k + 10 ≤ length words.old) × (16 * k + 16 ≤ length rects.old) × (half ≤ 1) }
     ensures { (words.new ≡ put_at words.old (10 * k + 4 + 3 * half) (look_of w)) × (rects.new ≡ put_at rects.old (16 * k + 8 * half) (edges_of w)) }
