@@ -6,28 +6,32 @@ use Rattle.std.specs.Prelude.{Option, None, Some}
 use Rattle.std.specs.Option.{option_or}
 use Prim.Native.Nat.{ℕ, zero, suc, ◌+◌, ◌-◌, min, ◌<◌, ◌≤◌}
 use native.Mathlib.Decide.{dec_lt, ℕ_discrete}
-use native.Mathlib.Nat.{not-suc-le-zero, le_of_suc-le-suc, zero-min}
-use native.Mathlib.Numerals.{add-one}
+use native.Mathlib.Nat.{not-suc-le-zero, le_of_suc-le-suc, zero-min, add-zero}
 use native.Mathlib.Omega.{arith}
 use lib.Dec.{ltb, eqb}
-use lib.ListN.{length, get_or, drop, drop_of_length-le, length-drop}
-use lib.Seq.{drop-cons, get_or-drop}
+use lib.ListN.{length, get_or, take, drop, drop_of_length-le, length-drop}
+use lib.Seq.{get_or-take, length-take-le, get_or-drop}
 use borrow.Author.Tests.{ltb-true, eqb-true, eq-eqb, ne_eqb, lt-ltb, le-ltb}
 use Rattle.tables.specs.Tables.{first_from, last_below, nearest, after}
 
--- ---- the search from i on, as its loop makes it
-module _ (xs : List ℕ) (i x : ℕ) where
-  pub find_past : length xs ≤ i → first_from i (drop i xs) x ≡ None
-  unfolding first_from
-  find_past h = rw (drop_of_length-le xs h)
+-- ---- the first place, by what stands at it and before it
+pub first_here : (i : ℕ) (xs : List ℕ) (x k : ℕ) → k < length xs → get_or xs k 0 ≡ x → ((j : ℕ) → j < k → get_or xs j 0 ≡ x → ⊥) → Some (i + k) ≡ first_from i xs x
+unfolding first_from
+first_here i [] x k h e n = absurd (not-suc-le-zero h)
+first_here i (y ∷ ys) x zero h e n = rw (eq-eqb y x e, add-zero)
+first_here i (y ∷ ys) x (suc k) h e n =
+    let s : i + suc k ≡ suc i + k = omega arith in
+    rw (ne_eqb y x (n 0 (omega arith)), s) (first_here (suc i) ys x k (le_of_suc-le-suc h) e (λ j l. n (suc j) (omega arith)))
 
-  pub find_here : i < length xs → get_or xs i 0 ≡ x → first_from i (drop i xs) x ≡ Some i
-  unfolding first_from
-  find_here h e = rw (drop-cons xs i 0 h, eq-eqb (get_or xs i 0) x e)
+pub first_nowhere : (i : ℕ) (xs : List ℕ) (x : ℕ) → ((j : ℕ) → j < length xs → get_or xs j 0 ≡ x → ⊥) → None ≡ first_from i xs x
+unfolding first_from
+first_nowhere i [] x n = refl
+first_nowhere i (y ∷ ys) x n = rw (ne_eqb y x (n 0 (omega arith))) (first_nowhere (suc i) ys x (λ j l. n (suc j) (omega arith)))
 
-  pub find_more : i < length xs → (get_or xs i 0 ≡ x → ⊥) → first_from i (drop i xs) x ≡ first_from (i + 1) (drop (i + 1) xs) x
-  unfolding first_from
-  find_more h e = rw (add-one, drop-cons xs i 0 h, ne_eqb (get_or xs i 0) x e)
+-- past the end
+pub first_past : (i : ℕ) (xs : List ℕ) (x : ℕ) → length xs < i → None ≡ first_from i (drop i xs) x
+unfolding first_from
+first_past i xs x h = rw (drop_of_length-le xs {i = i} (omega arith))
 
 -- ---- what is found stands there
 from_at : (i : ℕ) (xs : List ℕ) (x k : ℕ) → first_from i xs x ≡ Some k → (n : ℕ) × (k ≡ i + n) × (n < length xs) × (get_or xs n 0 ≡ x)
@@ -52,29 +56,24 @@ from_none j (y ∷ ys) x (suc i) e h q = from_none (suc j) ys x i (go (eqb y x) 
     go true e = cc
     go false e = e
 
--- ---- the search below n, as its loop makes it
+-- ---- the last place below n, by what stands at it and after it
 module _ (xs : List ℕ) (x : ℕ) where
-  pub below_none : (n : ℕ) → (0 < n → ⊥) → last_below xs n x ≡ None
+  inside_here : (n k : ℕ) → n ≤ length xs → k < n → get_or xs k 0 ≡ x → ((j : ℕ) → k < j → j < n → get_or xs j 0 ≡ x → ⊥) → Some k ≡ last_below xs n x
   unfolding last_below
-  below_none zero h = refl
-  below_none (suc n) h = absurd (h (omega arith))
+  inside_here zero k h l e m = absurd (not-suc-le-zero l)
+  inside_here (suc n) k h l e m = go (ℕ_discrete k n) (inside_here n k (omega arith))
+    where
+      go : Dec (k ≡ n) → (k < n → get_or xs k 0 ≡ x → ((j : ℕ) → k < j → j < n → get_or xs j 0 ≡ x → ⊥) → Some k ≡ last_below xs n x) → Some k ≡ last_below xs (suc n) x
+      go (yes p) rest = rw (← p, lt-ltb k (length xs) (omega arith), eq-eqb (get_or xs k 0) x e)
+      go (no p) rest = rw (ne_eqb (get_or xs n 0) x (m n (omega arith) (omega arith)), and-false) (rest (omega arith) e (λ j a b. m j a (omega arith)))
 
-  pub below_here : (n : ℕ) → 0 < n → n ≤ length xs → get_or xs (n - 1) 0 ≡ x → last_below xs n x ≡ Some (n - 1)
+  inside_nowhere : (n : ℕ) → ((j : ℕ) → j < n → get_or xs j 0 ≡ x → ⊥) → None ≡ last_below xs n x
   unfolding last_below
-  below_here zero p h e = absurd (omega arith)
-  below_here (suc n) p h e =
-      let q : suc n - 1 ≡ n = omega arith in
-      rw (q, lt-ltb n (length xs) h, eq-eqb (get_or xs n 0) x (rw q at e))
-
-  pub below_more : (n : ℕ) → 0 < n → (get_or xs (n - 1) 0 ≡ x → ⊥) → last_below xs n x ≡ last_below xs (n - 1) x
-  unfolding last_below
-  below_more zero p e = absurd (omega arith)
-  below_more (suc n) p e =
-      let q : suc n - 1 ≡ n = omega arith in
-      rw (q, ne_eqb (get_or xs n 0) x (rw q at e), and-false)
+  inside_nowhere zero m = refl
+  inside_nowhere (suc n) m = rw (ne_eqb (get_or xs n 0) x (m n (omega arith)), and-false) (inside_nowhere n (λ j l. m j (omega arith)))
 
   -- nothing stands past the end
-  pub below_end : (n : ℕ) → last_below xs n x ≡ last_below xs (min n (length xs)) x
+  below_end : (n : ℕ) → last_below xs n x ≡ last_below xs (min n (length xs)) x
   unfolding last_below
   below_end zero = rw zero-min
   below_end (suc n) = go (dec_lt n (length xs)) (below_end n)
@@ -84,6 +83,23 @@ module _ (xs : List ℕ) (x : ℕ) where
       go (no h) rest =
           let e : min (suc n) (length xs) ≡ min n (length xs) = omega arith in
           rw (e, le-ltb n (length xs) (omega arith)) rest
+
+  -- of the first n, as far as there are so many
+  module _ (n m : ℕ) (p : m ≡ min n (length xs)) where
+    front_get : (j : ℕ) → j < m → get_or (take m xs) j 0 ≡ get_or xs j 0
+    front_get j l = get_or-take m xs j 0 l
+
+    front_length : length (take m xs) ≡ m
+    front_length = length-take-le m xs (omega arith)
+
+    pub last_here : (k : ℕ) → k < length (take m xs) → get_or (take m xs) k 0 ≡ x → ((j : ℕ) → k + 1 ≤ j → j < length (take m xs) → get_or (take m xs) j 0 ≡ x → ⊥) → Some k ≡ last_below xs n x
+    last_here k h e after =
+        let l : k < m = rw front_length at h in
+        inside_here m k (omega arith) l (sym (front_get k l) ∙ e) (λ j a b q. after j (omega arith) (rw front_length b) (front_get j b ∙ q)) ∙ (λ i. last_below xs (p i) x) ∙ sym (below_end n)
+
+    pub last_nowhere : ((j : ℕ) → j < length (take m xs) → get_or (take m xs) j 0 ≡ x → ⊥) → None ≡ last_below xs n x
+    last_nowhere none =
+        inside_nowhere m (λ j b q. none j (rw front_length b) (front_get j b ∙ q)) ∙ (λ i. last_below xs (p i) x) ∙ sym (below_end n)
 
 -- ---- what is found below n stands there, and else it stands nowhere below n
 module _ (xs : List ℕ) (x : ℕ) where

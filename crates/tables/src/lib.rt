@@ -1,37 +1,22 @@
 // Tables in lent slices: where a number stands, a row put at a place, a row taken out of a tail. Total for every place and length.
 #![tactic(auto)]
 
-ghost use Rattle.std.specs.Prelude.{◌≡◌, ◌+◌, min, leb, length, get_or, drop, set, replicate};
+ghost use Rattle.std.specs.Prelude.{◌≡◌, ◌+◌, leb, length, get_or, drop, set};
 ghost use Rattle.tables.specs.Tables.{first_from, last_below, nearest, after, put_at, closed};
-
-pub fn fewer(a: usize, b: usize) -> usize
-    ensures { result ≡ min a b }
-{
-    a.min(b)
-}
 
 // The last place of x below n.
 pub fn find_below(xs: &[u64], n: usize, x: u64) -> Option<usize>
     ensures { result ≡ last_below xs.now n x }
 {
-    for i in (0..fewer(n, xs.len())).rev() {
-        if xs[i] == x {
-            return Some(i);
-        }
-    }
-    None
+    xs[..n.min(xs.len())].iter().rposition(|&y| y == x)
 }
 
 // The first place of x from n on.
 pub fn find_from(xs: &[u64], n: usize, x: u64) -> Option<usize>
     ensures { result ≡ first_from n (drop n xs.now) x }
 {
-    for i in n..xs.len() {
-        if xs[i] == x {
-            return Some(i);
-        }
-    }
-    None
+    let i = xs.get(n..)?.iter().position(|&y| y == x)?;
+    Some(n + i)
 }
 
 // The last place of x below n, or else the first from n on: of a number that stands once, its place, soon found where n is little above it.
@@ -66,13 +51,6 @@ pub fn put_one(xs: &mut [u64], at: usize, x: u64)
     }
 }
 
-// Puts the same number at every place.
-pub fn fill(xs: &mut [u64], x: u64)
-    ensures { xs.new ≡ replicate (length xs.old) x }
-{
-    xs.fill(x);
-}
-
 fn fits(at: usize, n: usize, room: usize) -> bool
     ensures { result ≡ leb (at + n) room }
 {
@@ -89,7 +67,8 @@ pub fn put<T: Copy>(xs: &mut [T], at: usize, row: &[T])
     }
 }
 
-// Takes the first `by` out: the others move down, and the last `by` places keep what they had.
+// Takes the first `by` out: the others move down, and the last `by` places keep what they had. LLVM makes a memmove of this loop, and none of std's `copy_within`,
+// with which a widget's move to the top over 256 rows took 1.4 times as long.
 pub fn close<T: Copy>(tail: &mut [T], by: usize)
     ensures { tail.new ≡ closed by tail.old }
 {

@@ -1,17 +1,13 @@
-use mathlib.Core.Path.{sym, ◌∙◌}
-use native.Mathlib.Omega.{arith}
-use Rattle.tables.proofs.Finding.{below_none, below_here, below_more, below_end}
+use mathlib.Core.Path.{refl}
+use Rattle.std.proofs.Common.{rules, ◌≡◌, ℕ}
+use Rattle.std.specs.Prelude.{Option, None, Some}
+use Rattle.tables.specs.Tables.{last_below}
+use Rattle.tables.proofs.Finding.{last_here, last_nowhere}
 use Rattle.tables.proofs.find_below.Goals as goal
 
-pub loop-i-init : goal.loop-i-init
-loop-i-init c = rw c.fewer-i.ensures (below_end _ _ _)
-
-pub returns-then-xs-i : goal.returns-then-xs-i
-returns-then-xs-i c =
-    sym (c.loop-i.invariant ∙ below_here c.args.xs.now c.args.x c.loop-i.i (omega arith) (omega arith) c.if-xs-i.true)
-
-pub loop-i-preserved : goal.loop-i-preserved
-loop-i-preserved c = c.loop-i.invariant ∙ below_more c.args.xs.now c.args.x c.loop-i.i (omega arith) c.if-xs-i.false
-
 pub returns : goal.returns
-returns c = sym (c.loop-i.invariant ∙ below_none _ _ _ (omega arith))
+returns c = go c.rposition.result refl
+  where
+    go : (r : Option ℕ) → c.rposition.result ≡ r → r ≡ last_below c.args.xs.now c.args.n c.args.x
+    go (Some k) e = last_here c.args.xs.now c.args.x c.args.n c.min.result c.min.ensures k (search rules) (search rules) (search rules)
+    go None e = last_nowhere c.args.xs.now c.args.x c.args.n c.min.result c.min.ensures (search rules)

@@ -1,12 +1,19 @@
-use mathlib.Core.Path.{sym, ◌∙◌}
-use Rattle.tables.proofs.Finding.{find_past, find_here, find_more}
+use mathlib.Core.Path.{◌∙◌}
+use Rattle.std.proofs.Common.{rules, ◌≡◌, drop}
+use Rattle.std.proofs.lemmas.List.{take_rest}
+use Rattle.tables.specs.Tables.{first_from}
+use Rattle.tables.proofs.Finding.{first_here, first_nowhere, first_past}
 use Rattle.tables.proofs.find_from.Goals as goal
 
-pub returns-then-xs-i : goal.returns-then-xs-i
-returns-then-xs-i c = sym (c.loop-i.invariant ∙ find_here _ _ _ c.loop-i-test.true c.if-xs-i.true)
+pub returns-in_err-get : goal.returns-in_err-get
+returns-in_err-get c = c.from_residual.ensures ∙ first_past c.args.n c.args.xs.now c.args.x (search rules)
 
-pub loop-i-preserved : goal.loop-i-preserved
-loop-i-preserved c = c.loop-i.invariant ∙ find_more _ _ _ c.loop-i-test.true c.if-xs-i.false
+pub returns-in_err-i : goal.returns-in_err-i
+returns-in_err-i c =
+    let same : c.iter.result.rest.now ≡ drop c.args.n c.args.xs.now = c.iter.ensures.rest ∙ c.in_ok-get.ensures.lookup.0.2 ∙ rw take_rest in
+    c.from_residual-in_err-i.ensures ∙ first_nowhere c.args.n c.iter.result.rest.now c.args.x (search rules) ∙ λ i. first_from c.args.n (same i) c.args.x
 
 pub returns : goal.returns
-returns c = sym (c.loop-i.invariant ∙ find_past _ _ _ c.loop-i-test.false)
+returns c =
+    let same : c.iter.result.rest.now ≡ drop c.args.n c.args.xs.now = c.iter.ensures.rest ∙ c.in_ok-get.ensures.lookup.0.2 ∙ rw take_rest in
+    first_here c.args.n c.iter.result.rest.now c.args.x c.in_ok-i.i (search rules) (search rules) (search rules) ∙ λ i. first_from c.args.n (same i) c.args.x
