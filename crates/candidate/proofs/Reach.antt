@@ -23,6 +23,7 @@ use Rattle.grid.specs.Grid.{magnitude_of, pivot_pos_refusal}
 use Rattle.vec2.specs.Length.{digits_up, nearest_of, length_of}
 use Rattle.vec2.proofs.Laws.{OnGrid, on_grid_lem, off_grid_lem, grid_or_not, rooted, nearest_is, length_value}
 use Rattle.std.specs.Prelude.{None, Some}
+use Rattle.std.specs.Bool.{then_some}
 use Rattle.candidate.specs.Candidate as spec
 use Rattle.candidate.specs.Candidate.{along_of, acos_angle, cone_bound, is_in_search_cone, score_of, verdict, judge_of, is_farther}
 use Rattle.candidate.proofs.Bound.{bound, bound_is}
@@ -270,17 +271,24 @@ module _ (v : Vec2) (k : ℕ) (a : Float) (A : a ≡ along_of v k) where
       | inr o ↦ no_cosine v k (off_grid_lem v o) ∙ sym (ap (div binary32 a) (L ∙ off_grid_lem v o) ∙ over_nan a)
     ]
 
-    pub in_cone_lem : le cone_bound (div binary32 a l) ≡ true → Some (div binary32 l (mul binary32 (div binary32 a l) (div binary32 a l))) ≡ judge_of v k
+    in_cone_lem : le cone_bound (div binary32 a l) ≡ true → Some (div binary32 l (mul binary32 (div binary32 a l) (div binary32 a l))) ≡ judge_of v k
     unfolding judge_of is_in_search_cone score_of
     in_cone_lem t =
         (λ i. Some (div binary32 (L i) (mul binary32 (sym cosine_is i) (sym cosine_is i))))
         ∙ ap (λ (b : Bool). verdict b (score_of v k)) (sym (ap (le cone_bound) cosine_is ∙ t))
 
-    pub out_of_cone : le cone_bound (div binary32 a l) ≡ false → None ≡ judge_of v k
+    out_of_cone : le cone_bound (div binary32 a l) ≡ false → None ≡ judge_of v k
     out_of_cone t = outside v k (test t)
       where
         test : le cone_bound (div binary32 a l) ≡ false → is_in_search_cone v k ≡ false
         test t = cone_test v k ∙ ap (le cone_bound) cosine_is ∙ t
+
+    pub by_cone : then_some (le cone_bound (div binary32 a l)) (div binary32 l (mul binary32 (div binary32 a l) (div binary32 a l))) ≡ judge_of v k
+    by_cone = go (le cone_bound (div binary32 a l)) refl
+      where
+        go : (t : Bool) → le cone_bound (div binary32 a l) ≡ t → then_some t (div binary32 l (mul binary32 (div binary32 a l) (div binary32 a l))) ≡ judge_of v k
+        go true t = in_cone_lem t
+        go false t = out_of_cone t
 
 -- ---- in no cone
 pub zero_outside : (v : Vec2) (k : ℕ) → count_of 64 v.x ≡ at (pos 0) → count_of 64 v.y ≡ at (pos 0) → is_in_search_cone v k ≡ false

@@ -70,10 +70,7 @@ pub fn judge(v: Vec2, direction: u64) -> Option<f32>
     }
     let distance = vec2::length(v);
     let cos = ahead / distance;
-    if f32::from_bits(0x3f35_04f3) <= cos {
-        return Some(distance / (cos * cos));
-    }
-    None
+    (f32::from_bits(0x3f35_04f3) <= cos).then_some(distance / (cos * cos))
 }
 
 // On the grid range_diff is document 01's difference: ends in 32nds, the difference in 64ths. There is nothing to run.

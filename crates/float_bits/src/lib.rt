@@ -8,15 +8,13 @@ ghost use Rattle.float_bits.specs.Pattern.{float_of, bits_of};
 
 use std::num::f32_from_bits_with_nan;
 
-// The float of a pattern, NaN for each NaN pattern; NaN also for a number that is no pattern, from 2^32 on.
+// The float of a pattern, NaN for each NaN pattern; NaN also for a number that is no pattern, from 2^32 on. The function goes to `map_or` in a closure: by its name alone
+// it was tried, and the proof did not close.
 #[tactic(auto, using(crate::proofs::Laws::past_patterns), unfolding(crate::specs::Pattern::float_of))]
 pub fn from_bits(n: u64) -> f32
     ensures { result ≡ float_of n }
 {
-    match u32::try_from(n) {
-        Ok(bits) => f32_from_bits_with_nan(bits),
-        Err(_) => f32::NAN,
-    }
+    u32::try_from(n).map_or(f32::NAN, |bits| f32_from_bits_with_nan(bits))
 }
 
 // The pattern of a float, and None for a NaN: every NaN is one and the same.
@@ -24,10 +22,7 @@ pub fn from_bits(n: u64) -> f32
 pub fn to_bits(x: f32) -> Option<u64>
     ensures { result ≡ bits_of x }
 {
-    if x.is_nan() {
-        return None;
-    }
-    Some(u64::from(x.to_bits()))
+    (!x.is_nan()).then(|| u64::from(x.to_bits()))
 }
 
 // A float that is no NaN is the float of its pattern, and a pattern that is no NaN's is the pattern of its float.
