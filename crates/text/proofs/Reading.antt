@@ -1,6 +1,6 @@
 -- Laws of what is read at a place: digits, words, lines. Each loop's turn is one of them. Assumes nothing.
 use mathlib.Core.Path.{◌≡◌, refl, sym, ap, ◌∙◌}
-use Prim.Native.Nat.{ℕ, suc, ◌+◌, ◌-◌, ◌*◌, ◌<◌, ◌≤◌, min}
+use Prim.Native.Nat.{ℕ, zero, suc, ◌+◌, ◌-◌, ◌*◌, ◌<◌, ◌≤◌, min}
 use native.Mathlib.Numerals.{add-one}
 use native.Mathlib.Omega.{arith}
 use mathlib.Core.Bool.{Bool, true, false, not, cond}
@@ -9,7 +9,7 @@ use lib.Dec.{leb, eqb}
 use lib.ListN.{length, get_or, take, drop, drop_of_length-le}
 use lib.Seq.{drop-cons, get_or-drop}
 use borrow.Author.Tests.{le-leb, lt-leb, eq-eqb, ne_eqb, eqb-true, eqb-false}
-use Rattle.text.specs.Read.{is_digit, digits_of, worth, well_written, value_at, number_at, opens, word_at, skip_at, number_from, argument_at, length_before}
+use Rattle.text.specs.Read.{is_digit, digits_of, worth, well_written, value_at, number_at, opens, word_at, length_before}
 use lib.Pointwise.{pointwise}
 use Rattle.std.specs.Prelude.{Option, None, Some}
 use Rattle.std.proofs.lemmas.Grind.{common_steps}
@@ -155,7 +155,7 @@ opens_is (b ∷ w) [] = refl
 opens_is (b ∷ w) (c ∷ s) = rw (eqb_sym b c, opens_is w s)
 
 -- what stands from a place on
-rest_is : (s : List ℕ) (at : ℕ) → take (length s - min at (length s)) (drop (min at (length s)) s) ≡ drop at s
+pub rest_is : (s : List ℕ) (at : ℕ) → take (length s - min at (length s)) (drop (min at (length s)) s) ≡ drop at s
 rest_is s at = grind (arith, common_steps)
 
 module _ (s : List ℕ) (at : ℕ) (w : List ℕ) where
@@ -173,16 +173,14 @@ module _ (s : List ℕ) (at : ℕ) (w : List ℕ) where
   unfolding word_at
   word_other e = rw (sym stands_is ∙ e)
 
--- ---- the first place of a byte
-module _ (s : List ℕ) (i b : ℕ) where
-  pub find_past : length s ≤ i → length_before b (drop i s) ≡ 0
-  unfolding length_before
-  find_past h = rw (drop_of_length-le s h)
+-- ---- the first place of a byte, by what stands at it and before it
+pub before_here : (s : List ℕ) (b k : ℕ) → k < length s → get_or s k 0 ≡ b → ((j : ℕ) → j < k → get_or s j 0 ≡ b → ⊥) → k ≡ length_before b s
+unfolding length_before
+before_here [] b k h e n = absurd (omega arith)
+before_here (c ∷ s) b zero h e n = rw (eq-eqb c b e)
+before_here (c ∷ s) b (suc k) h e n = rw (ne_eqb c b (n 0 (omega arith))) (ap suc (before_here s b k (omega arith) e (λ j l. n (suc j) (omega arith))))
 
-  pub find_here : i < length s → get_or s i 0 ≡ b → length_before b (drop i s) ≡ 0
-  unfolding length_before
-  find_here h e = rw (drop-cons s i 0 h, eq-eqb (get_or s i 0) b e)
-
-  pub find_more : i < length s → (get_or s i 0 ≡ b → ⊥) → length_before b (drop i s) ≡ suc (length_before b (drop (i + 1) s))
-  unfolding length_before
-  find_more h e = rw (add-one, drop-cons s i 0 h, ne_eqb (get_or s i 0) b e)
+pub before_none : (s : List ℕ) (b : ℕ) → ((j : ℕ) → j < length s → get_or s j 0 ≡ b → ⊥) → length s ≡ length_before b s
+unfolding length_before
+before_none [] b n = refl
+before_none (c ∷ s) b n = rw (ne_eqb c b (n 0 (omega arith))) (ap suc (before_none s b (λ j l. n (suc j) (omega arith))))

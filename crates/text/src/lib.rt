@@ -1,5 +1,6 @@
 // Words and numbers of a line of bytes, read at a place of it, and put at a place of a lent buffer.
-// Every function is total, for every slice and every place: past the end no byte stands, and no room is left.
+// Every function is total, for every slice and every place: past the end no byte stands, and no room is left. A place goes in and the next one comes out, so that
+// slice and place are two; crate `replay` keeps them in one. Numbers go to a lent slice, and std's `Display` to a formatter.
 #![tactic(auto)]
 
 ghost use Rattle.std.specs.Prelude.{◌≡◌, ℕ, ◌+◌, ◌-◌, ◌≤◌, ◌%◌, max, Some, List, [], ◌++◌, length, drop, get_or};
@@ -70,12 +71,11 @@ pub fn argument(s: &[u8], at: usize) -> Option<(u64, usize)>
 pub fn find(s: &[u8], at: usize, b: u8) -> usize
     ensures { (result ≡ find_from s.now at b) × (at ≤ result) × (result ≤ max at (length s.now)) }
 {
-    for i in at..s.len() {
-        if s[i] == b {
-            return i;
-        }
+    let rest = &s[at.min(s.len())..];
+    match rest.iter().position(|&c| c == b) {
+        Some(i) => at + i,
+        None => at.max(s.len()),
     }
-    at.max(s.len())
 }
 
 // Copies s to a place where all of it fits, and else writes nothing. Answers the place after it in both cases:

@@ -1,18 +1,27 @@
+-- `text::find` meets its contract. Assumes nothing.
+use mathlib.Core.Path.{ap, ◌∙◌}
 use native.Mathlib.Omega.{arith}
-use Rattle.text.proofs.Reading.{find_past, find_here, find_more}
+use Rattle.std.proofs.Common.{rules, ◌≡◌, ℕ, ◌+◌, ◌-◌, ◌<◌, length, drop, take}
+use lib.ListN.{length-drop}
+use Rattle.text.specs.Read.{length_before}
+use Rattle.text.proofs.Reading.{rest_is, before_here, before_none}
 use Rattle.text.proofs.find.Goals as goal
 
-pub returns-then-s-i : goal.returns-then-s-i
-returns-then-s-i c =
-    let e = find_here c.args.s.now c.loop-i.i c.args.b c.loop-i-test.true c.if-s-i.true in
-    (omega arith, omega arith, omega arith)
+pub returns-in-Some : goal.returns-in-Some
+returns-in-Some c =
+    let at = c.args.at in
+    let s = c.args.s.now in
+    let same : c.iter.result.rest.now ≡ drop at s = c.iter.ensures.rest ∙ ap (λ (m : ℕ). take (length s - m) (drop m s)) c.min.ensures ∙ rest_is s at in
+    let inside : c.in-Some.i < length c.iter.result.rest.now = search rules in
+    let long : length c.iter.result.rest.now ≡ length s - at = ap length same ∙ length-drop at s in
+    let e = before_here c.iter.result.rest.now c.args.b c.in-Some.i inside (search rules) (search rules) in
+    (ap (λ (n : ℕ). at + n) (e ∙ λ i. length_before c.args.b (same i)), omega arith, omega arith)
 
-pub loop-i-preserved : goal.loop-i-preserved
-loop-i-preserved c =
-    let e = find_more c.args.s.now c.loop-i.i c.args.b c.loop-i-test.true c.if-s-i.false in
-    (omega arith, omega arith)
-
-pub returns : goal.returns
-returns c =
-    let e = find_past c.args.s.now c.loop-i.i c.args.b c.loop-i-test.false in
-    (omega arith, omega arith, omega arith)
+pub returns-in-None : goal.returns-in-None
+returns-in-None c =
+    let at = c.args.at in
+    let s = c.args.s.now in
+    let same : c.iter.result.rest.now ≡ drop at s = c.iter.ensures.rest ∙ ap (λ (m : ℕ). take (length s - m) (drop m s)) c.min.ensures ∙ rest_is s at in
+    let long : length c.iter.result.rest.now ≡ length s - at = ap length same ∙ length-drop at s in
+    let e = before_none c.iter.result.rest.now c.args.b (search rules) ∙ λ i. length_before c.args.b (same i) in
+    (omega (arith, c.max.ensures), omega (arith, c.max.ensures), omega (arith, c.max.ensures))
