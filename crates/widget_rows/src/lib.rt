@@ -64,7 +64,8 @@ fn read_half(ids: &[u64], words: &[u64], rects: &[f32], k: usize, half: usize) -
 
 // ---- the lists of the layers
 
-// The index after the last of the layer's list, among the first n rows, or among all where they are fewer.
+// The index after the last of the layer's list, among the first n rows, or among all where they are fewer. The rows are numbered: over the slice's own iterator, backwards,
+// the loop is no plainer, since its proof has to speak of what the iterator has left.
 #[tactic(auto, using(crate::proofs::Lists::next_hit, crate::proofs::Lists::next_miss, crate::proofs::Chunked::chunk_in, crate::proofs::Chunked::chunk_index), unfolding(crate::specs::Rows::next_index))]
 pub fn next_index(words: &[u64], n: usize, layer: LayerId) -> u64
     ensures { result ≡ next_index words.now (min n (length words.now / 10)) layer }
@@ -195,7 +196,7 @@ impl WidgetTable<'_> {
         ))
     }
 
-    // The first widget of the layer's list that stands at a row or after it, with the row after its own.
+    // The first widget of the layer's list that stands at a row or after it, with the row after its own, for which the rows are numbered.
     #[tactic(auto, using(crate::proofs::Lists::listed_hit, crate::proofs::Lists::listed_miss, crate::proofs::Lists::listed_end, crate::proofs::Chunked::chunk_in), unfolding(crate::specs::Rows::held_in, crate::specs::Rows::room_of))]
     pub fn next_in_layer(self, from: usize, layer: LayerId) -> Option<(usize, WidgetRect)>
         ensures { result ≡ listed_in (lent self.entry).rows layer (held_of (lent self.entry) - from) from }
