@@ -4,7 +4,6 @@
 //     ids:   the id
 //     words: ten numbers: parent id, Order, layer's id, index, and twice sense, enabled, visible
 //     rects: sixteen numbers: twice rect, interact_rect
-// The rows are numbers, lent to be written by turns, so that a function of one row asks for its room itself.
 // The record stands in a row twice, since egui holds it twice: half 0 is the one held by id, half 1 the one in the list of its layer.
 #![tactic(auto)]
 
