@@ -8,8 +8,8 @@ ghost use Rattle.float_bits.specs.Pattern.{float_of, bits_of};
 
 use std::num::f32_from_bits_with_nan;
 
-// The float of a pattern, NaN for each NaN pattern; NaN also for a number that is no pattern, from 2^32 on. The function goes to `map_or` in a closure: by its name alone
-// it was tried, and the proof did not close.
+// The float of a pattern, NaN for each NaN pattern; NaN also for a number that is no pattern, from 2^32 on. std's function goes to `map_or` in a closure:
+// it was tried by its name alone, and the proof did not close.
 #[tactic(auto, using(crate::proofs::Laws::past_patterns), unfolding(crate::specs::Pattern::float_of))]
 pub fn from_bits(n: u64) -> f32
     ensures { result ≡ float_of n }

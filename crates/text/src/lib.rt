@@ -30,7 +30,7 @@ fn digits(s: &[u8], at: usize) -> Option<(u64, usize)>
 }
 
 // A decimal number at a place, and the place after it: all the digits that stand there. None where there is no digit,
-// where a 0 stands before others (`01`), and past 2^64 - 1.
+// where a 0 stands before others (`01`), and past 2^64 - 1. The test says what is refused, which `then_some` would have to turn round.
 pub fn number(s: &[u8], at: usize) -> Option<(u64, usize)>
     ensures { result ≡ number_at s.now at }
 {
