@@ -10,4 +10,5 @@ pub mod Queries
 pub mod Steps
 pub mod Pairing
 pub mod States
+pub mod Answers
 pub mod Holds

@@ -1,3 +1,4 @@
 pub mod Egui
 pub mod Calls
 pub mod Meaning
+pub mod Answers

@@ -6,12 +6,11 @@ use Rattle.refusal.specs.Refusal.{none as notRefused}
 use Rattle.layers.specs.Layers.{layer_refusal}
 use Rattle.std.specs.Prelude.{Option, None, Some}
 use Rattle.area.specs.declared.AreaState.{AreaState}
-use Rattle.area_table.specs.Table.{held_of}
 use Rattle.areas.specs.declared.Areas.{Areas}
-use Rattle.areas.specs.Areas.{stack_of, areas_in, layers_of}
+use Rattle.areas.specs.Areas.{layers_of}
 use Rattle.area_maps.specs.Egui as EguiAreas
-use Rattle.area_maps.specs.Meaning.{entries_in}
-use Rattle.area_maps.proofs.Queries.{query_order, query_get}
+use Rattle.area_maps.proofs.Answers.{area_answers}
+use Rattle.area_maps.proofs.Answers.{layer_answers as area_layer_answers}
 use Rattle.focus_rules.specs.declared.Nav.{Nav}
 use Rattle.focus_maps.specs.Egui as EguiFocus
 use Rattle.focus_maps.proofs.Means.{focused_means, is_means, focused_answer}
@@ -20,7 +19,7 @@ use Rattle.memory_rules.specs.State.{areas_of, focus_of, nav_of, popup_of}
 use Rattle.memory_rules.specs.Memory.{rect_in, area_rect, is_popup_open}
 use Rattle.memory_maps.specs.Egui as Egui
 use Rattle.memory_maps.specs.Calls.{meaning_of}
-use Rattle.memory_maps.specs.Answers.{FocusAnswers, LayerAnswers, PopupAnswers}
+use Rattle.memory_maps.specs.Answers.{FocusAnswers, LayerAnswers, AreasAnswers, PopupAnswers}
 use Rattle.memory_maps.proofs.Fit.{Fit}
 use Rattle.memory_maps.proofs.Layers.{above_means, allowed_means, hit_means}
 use Rattle.memory_maps.proofs.Popups.{some_means, same_means, position_means}
@@ -72,8 +71,8 @@ module _ (m : Memory) where
     rect None = refl
     rect (Some s) = refl
 
-    state : (id : ℕ) → held_of (areas_in a) a.states 0 id ≡ EguiAreas.get e.areas id
-    state id = query_get a.placed (stack_of a) (entries_in a) fit.sound.sound (areas_in a) a.states refl 0 id
+    pub areas_answers : AreasAnswers m e
+    areas_answers = (area_layer_answers a fit.sound.sound, area_answers a fit.sound.sound)
 
     pub layer_answers : LayerAnswers m e
     unfolding area_rect layers_of
@@ -82,8 +81,8 @@ module _ (m : Memory) where
       λ layer. ap (answer (layer_refusal layer)) (above_means m fit.sound.sound layer),
       λ layer. ap (answer (layer_refusal layer)) (allowed_means m fit.sound.sound layer),
       λ pos. hit_means m fit.sound.sound pos,
-      query_order a.placed (stack_of a) (entries_in a),
-      λ id. asked id _ _ (λ h. ap rect_in (state id) ∙ rect (EguiAreas.get e.areas id)),
+      areas_answers.0.0,
+      λ id. asked id _ _ (λ h. ap rect_in (areas_answers.1.1 id) ∙ rect (EguiAreas.get e.areas id)),
     )
 
   -- ---- the popup

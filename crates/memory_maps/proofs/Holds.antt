@@ -15,10 +15,10 @@ use Rattle.memory_rules.specs.State.{areas_of, focus_of, new_memory}
 use Rattle.memory_rules.specs.Calls.{Call, done_by}
 use Rattle.memory_maps.specs.Egui as Egui
 use Rattle.memory_maps.specs.Calls.{Calls, meaning_of, refusal_of, egui_step, record_after, egui_after}
-use Rattle.memory_maps.specs.Answers.{FocusAnswers, LayerAnswers, PopupAnswers}
+use Rattle.memory_maps.specs.Answers.{FocusAnswers, LayerAnswers, AreasAnswers, PopupAnswers}
 use Rattle.memory_maps.proofs.Fit.{Fit}
 use Rattle.memory_maps.proofs.Steps.{step}
-use Rattle.memory_maps.proofs.Answers.{focus_answers, layer_answers, popup_answers}
+use Rattle.memory_maps.proofs.Answers.{focus_answers, layer_answers, areas_answers, popup_answers}
 
 -- ---- a new record, which the theorems of the parts speak of after no call
 new_fit : Fit (areas_of new_memory) (focus_of new_memory)
@@ -49,7 +49,7 @@ module _ (calls : Calls) where
   at_egui : (P : Egui.Memory → Type 0) → P (meaning_of (record_after calls)) → P (egui_after layers cached calls)
   at_egui P h = subst P (holds calls).1 h
 
-  pub answers : FocusAnswers (record_after calls) (egui_after layers cached calls) × LayerAnswers (record_after calls) (egui_after layers cached calls) × PopupAnswers (record_after calls) (egui_after layers cached calls)
+  pub answers : FocusAnswers (record_after calls) (egui_after layers cached calls) × LayerAnswers (record_after calls) (egui_after layers cached calls) × AreasAnswers (record_after calls) (egui_after layers cached calls) × PopupAnswers (record_after calls) (egui_after layers cached calls)
   answers =
       let m = record_after calls in
-      (at_egui (FocusAnswers m) (focus_answers m), at_egui (LayerAnswers m) (layer_answers m (holds calls).0), at_egui (PopupAnswers m) (popup_answers m))
+      (at_egui (FocusAnswers m) (focus_answers m), at_egui (LayerAnswers m) (layer_answers m (holds calls).0), at_egui (AreasAnswers m) (areas_answers m (holds calls).0), at_egui (PopupAnswers m) (popup_answers m))

@@ -1,14 +1,12 @@
 -- Where the areas are sound, the record's tests about layers say what egui's do; and areas that are reset are sound and mean none. Assumes nothing.
-use Rattle.std.specs.Prelude.{◌≡◌, ℕ, min, Bool, true, false, cond, not, ◌&&◌, ◌||◌, eqb, ltb, List, [], take}
-use mathlib.Core.Path.{refl, sym, ap, ◌∙◌}
+use Rattle.std.specs.Prelude.{◌≡◌, ℕ, min, Bool, true, false, cond, not, ◌&&◌, ◌||◌, eqb, ltb, List, []}
+use mathlib.Core.Path.{refl, ap, ◌∙◌}
 use Rattle.std.specs.Prelude.{Option, None, Some}
 use native.Mathlib.Omega.{arith}
-use lib.Seq.{take-take}
 use Rattle.emath.specs.declared.Pos2.{Pos2}
 use Rattle.layers.specs.declared.LayerId.{LayerId}
 use Rattle.stacking.specs.Stacking.{Distinct, Orders}
-use Rattle.layer_rows.specs.Rows.{held_rows, rows_of, row_of, spot_in}
-use Rattle.layer_rows.proofs.Rows.{held_length}
+use Rattle.layer_rows.specs.Rows.{held_rows, row_of, spot_in}
 use Rattle.layer_queries.specs.Queries.{compared}
 use Rattle.area_table.specs.Table.{Table, room_of, entries_of, entries_from, get_in}
 use Rattle.area_table.specs.Table as Table
@@ -20,7 +18,8 @@ use Rattle.area_maps.specs.Meaning.{meaning, entries_in}
 use Rattle.area_maps.specs.Meaning as Areas
 use Rattle.area_maps.proofs.Sound.{Sound, SoundAreas}
 use Rattle.area_maps.proofs.Pushed.{no_pairs}
-use Rattle.area_maps.proofs.Queries.{query_compare, query_hit}
+use Rattle.area_maps.proofs.Queries.{query_hit}
+use Rattle.area_maps.proofs.Answers.{compare_means}
 use Rattle.focus_rules.specs.Rules.{layer_or_nothing}
 use Rattle.memory_rules.specs.declared.Memory.{Memory}
 use Rattle.memory_rules.specs.State.{areas_of, nav_of}
@@ -73,12 +72,8 @@ module _ (m : Memory) (s : Sound (areas_of m).placed (stack_of (areas_of m)) (en
   abbrev a : Areas
   a = areas_of m
 
-  placed_rows : held_rows a.placed a.rows ≡ take a.placed (stack_of a)
-  unfolding held_rows
-  placed_rows = sym (take-take a.placed a.count (rows_of a.rows) (omega (arith, s.placed_held, held_length a.count a.rows)))
-
   below_means : (x y : LayerId) → is_below m x y ≡ Egui.is_less (EguiAreas.compare_order (Areas.meaning_of a) x y)
-  below_means x y = rw placed_rows (ap Egui.is_less (query_compare a.placed (stack_of a) (entries_in a) x y))
+  below_means x y = ap Egui.is_less (compare_means a s x y)
 
   pub above_means : (layer : LayerId) → is_above m layer ≡ Egui.is_above_modal_layer (meaning_of m) layer
   unfolding is_above

@@ -10,6 +10,7 @@ use Rattle.focus_rules.specs.Rules.{id_or_nothing, layer_or_nothing}
 use Rattle.memory_rules.specs.declared.Memory.{Memory}
 use Rattle.memory_rules.specs.State.{areas_of, nav_of}
 use Rattle.memory_rules.specs.Memory.{above_answer, allows_answer, layer_id_at, had_focus, has_focus, lost_focus, gained_focus, of_id, area_rect, is_popup_open, any_popup_open, position_answer}
+use Rattle.area_maps.specs.Answers as Areas
 use Rattle.memory_maps.specs.Egui as Egui
 
 -- ---- a query with an id is refused where the id is 0, one with a layer where that is none; the others answer always
@@ -39,3 +40,7 @@ PopupAnswers m e =
     × (any_popup_open m ≡ Egui.any_popup_open e)
     × ((id : ℕ) → position_answer m id ≡ answer (id_refusal id) (Egui.popup_position e id))
     × (m.everything_is_visible ≡ e.everything_is_visible)
+
+-- the queries of `areas()`, passed through
+abbrev pub AreasAnswers : Memory → Egui.Memory → Type 0
+AreasAnswers m e = Areas.LayerAnswers (areas_of m) e.areas × Areas.AreaAnswers (areas_of m) e.areas

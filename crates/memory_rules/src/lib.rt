@@ -1,7 +1,8 @@
 // `Memory` of memory/mod.rs: its types and, in specs/, what each of its calls does. The functions are in crates `memory_core`, in place, and `memory`, by value: there is nothing to run here.
 #![tactic(auto)]
 
-ghost use Rattle.std.specs.Prelude.{◌≡◌};
+ghost use Rattle.std.specs.Prelude.{◌≡◌, ◌≤◌};
+ghost use Rattle.refusal.specs.Refusal.{bad_family};
 ghost use Rattle.memory_rules.specs.declared.Memory.{Memory};
 ghost use Rattle.memory_rules.specs.Calls.{Call, done_by};
 
@@ -52,4 +53,9 @@ pub struct Fields {
 // A call that is refused leaves the memory as it was, every number of it. There is nothing to run.
 pub fn refused_changes_nothing()
     ensures { (m : Memory) (call : Call) → ((done_by call m).refusal ≡ 0 → ⊥) → (done_by call m).memory ≡ m }
+{}
+
+// A call is taken, or refused by one of document 01's numbers, 1 to 9: so `answer` tells it (`refusal::answer_tells_number`). There is nothing to run.
+pub fn refusals_are_numbered()
+    ensures { (m : Memory) (call : Call) → (done_by call m).refusal ≤ bad_family }
 {}
