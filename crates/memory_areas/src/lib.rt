@@ -13,48 +13,55 @@ ghost use Rattle.layer_rows.specs.Rows.{held_rows, row_of};
 ghost use Rattle.layer_queries.specs.Queries.{is_top_row, shown_last, is_visible_row, is_sublayer_row, compared_by, parent_in, last_of};
 ghost use Rattle.layer_queries.specs.declared.Listing.TheVariants.{All, Visible};
 ghost use Rattle.area_stack.specs.Stack.{is_interactable};
-ghost use Rattle.areas.specs.Areas.{Changed, areas_in, stack_of, state_set, to_top_of, sublayer_set, layers_of, listed, children_answer, windows_of, windows_listed};
+ghost use Rattle.areas.specs.Areas.{areas_in, stack_of, state_set, to_top_of, sublayer_set, layers_of, listed, children_answer, windows_of, windows_listed};
 ghost use Rattle.memory_rules.specs.State.{areas_of, done};
 ghost use Rattle.memory_rules.specs.Memory.{layer_id_at, area_rect, areas_reset};
 ghost use Rattle.memory_rules.specs.Calls.{with_stack};
 
 use area::AreaState;
-use areas::{Areas, Layers, Windows};
+use areas::{Layers, Windows};
 use emath::{Pos2, Rect};
 use layers::LayerId;
-use memory_rules::{Memory, Viewport};
+use memory_rules::Memory;
 use refusal::Refusal;
 use std::cmp::Ordering;
 
 // ---- calls that change them
 
-// What a call on the areas leaves.
-fn stacked(m: Memory, called: Result<Areas, Refusal>) -> Result<Memory, Refusal>
-    ensures { (r : Changed) → number_in called ≡ r.refusal → IfOk called (λ a. a ≡ r.areas) → done m result ≡ with_stack m r }
-{
-    let viewport = Viewport {
-        areas: called?,
-        ..m.viewport
-    };
-    Ok(Memory { viewport, ..m })
-}
-
-pub fn set_state(m: Memory, layer: LayerId, state: AreaState) -> Result<Memory, Refusal>
+pub fn set_state(mut m: Memory, layer: LayerId, state: AreaState) -> Result<Memory, Refusal>
     ensures { done m result ≡ with_stack m (state_set (areas_of m) layer state) }
 {
-    stacked(m, m.viewport.areas.set_state(layer, state))
+    let fields = memory::fields_of(m);
+    let areas = &mut m.viewport.areas;
+    let shown = memory_stack::set_state(
+        fields,
+        &mut areas.rows,
+        &mut areas.ids,
+        &mut areas.codes,
+        &mut areas.floats,
+        layer,
+        state,
+    );
+    memory::done(m, shown)
 }
 
-pub fn move_to_top(m: Memory, layer: LayerId) -> Result<Memory, Refusal>
+pub fn move_to_top(mut m: Memory, layer: LayerId) -> Result<Memory, Refusal>
     ensures { done m result ≡ with_stack m (to_top_of (areas_of m) layer) }
 {
-    stacked(m, m.viewport.areas.move_to_top(layer))
+    let raised = memory_stack::move_to_top(memory::fields_of(m), &mut m.viewport.areas.rows, layer);
+    memory::done(m, raised)
 }
 
-pub fn set_sublayer(m: Memory, parent: LayerId, child: LayerId) -> Result<Memory, Refusal>
+pub fn set_sublayer(mut m: Memory, parent: LayerId, child: LayerId) -> Result<Memory, Refusal>
     ensures { done m result ≡ with_stack m (sublayer_set (areas_of m) parent child) }
 {
-    stacked(m, m.viewport.areas.set_sublayer(parent, child))
+    let paired = memory_stack::set_sublayer(
+        memory::fields_of(m),
+        &mut m.viewport.areas.rows,
+        parent,
+        child,
+    );
+    memory::done(m, paired)
 }
 
 pub fn reset_areas(m: Memory) -> Memory
