@@ -1,5 +1,5 @@
-// `Memory` of memory/mod.rs as a record by value: the calls on its layers and areas, those of `Areas` passed through, a line each: egui's callers reach them
-// through `Memory` too.
+// `Memory` of memory/mod.rs as a record by value: the calls on its layers and areas, over the functions in place (crate `memory_stack`), and the queries of `Areas`, passed on in a line each:
+// egui's callers reach them through `Memory` too.
 // An Order is a code, as document 01 has all kinds: any number may come, and one past the last is refused by 2.
 #![tactic(auto)]
 
