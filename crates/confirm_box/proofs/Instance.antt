@@ -1,0 +1,36 @@
+-- The premises of the opening and of the passes after it hold of a box over a page of two fields: computed. Assumes nothing.
+use mathlib.Core.Path.{◌≡◌, refl}
+use native.Mathlib.Omega.{arith}
+use lib.Ieee.{of_bits, of_fields, lt}
+use Rattle.std.specs.Prelude.{true, Some}
+use Rattle.refusal.specs.Refusal.{lowest}
+use Rattle.floats.specs.Count as Floats
+use Rattle.grid.specs.Grid.{within, rect_refusal}
+use Rattle.input.specs.EventFilter.{matches_key}
+use Rattle.input.specs.FocusDirection.{is_cardinal, navigation_of}
+use Rattle.input.specs.Modifiers.{any_of, shift_only}
+use Rattle.layers.specs.Layers.{layer_refusal}
+use Rattle.stacking.specs.Lists.{stable, keep}
+use Rattle.layer_rows.specs.Rows.{spot_in, held_rows}
+use Rattle.layer_queries.specs.Queries.{rank_in}
+use Rattle.layer_sort.specs.Sort.{by_order, by_family, map_from, pass_of, end_rows}
+use Rattle.areas.specs.Areas.{new_areas, pass_ended}
+use Rattle.tables.specs.Tables.{written_on}
+use Rattle.search.specs.Search.{table_of}
+use Rattle.focus_rules.specs.Rules.{id_or_nothing, filter_of, started_of, begun_of, interested_of, ended_of, let_go}
+use Rattle.focus_cache.specs.Cache.{held_in, has_id, enlisted, without, full_refusal, corners_of, cache_on}
+use Rattle.focus_pass.specs.Pass as Pass
+use Rattle.used.specs.Used as Used
+use Rattle.focus_end.specs.End.{nav_ended, cache_ended, end_of}
+use Rattle.focus.specs.Focus as Focus
+use Rattle.memory_rules.specs.State.{nav_of, new_memory}
+use Rattle.memory_rules.specs.Memory as Memory
+use Rattle.memory_rules.specs.Calls.{done_by}
+use Rattle.confirm_box.specs.KeptOut.{run}
+use Rattle.confirm_box.specs.Modal.{in_force, keeps_under}
+use Rattle.confirm_box.specs.Rule.{Opens, opening}
+use Rattle.confirm_box.specs.Instance.{start, box, calls}
+
+pub met : Opens start box × (keeps_under box.layer.order 11 (in_force box.layer.order start) true calls ≡ true) × (id_or_nothing (nav_of (run (run start (opening box)) calls)).focused ≡ Some 22)
+unfolding start opening run keeps_under done_by new_memory Memory.begun_of Memory.interested_of Memory.ended_of Memory.ignored_of Memory.requested_next Memory.modal_set Memory.is_allowed Memory.is_above Focus.new_focus Focus.interested_of Focus.ignored_of Focus.requested_next Focus.modal_set Pass.begin_refusal Pass.worst_of Pass.heard_all Pass.is_granted Pass.nav_begun Pass.begin_of Pass.interest_refusal Pass.interest_of Pass.ignore_of filter_of started_of begun_of interested_of ended_of let_go nav_ended cache_ended end_of Used.used_refusal Used.worst_of Used.repeated Used.elem held_in has_id enlisted without full_refusal corners_of cache_on written_on table_of layer_refusal any_of shift_only is_cardinal navigation_of matches_key within rect_refusal Floats.count_of lowest of_bits of_fields lt rank_in spot_in held_rows stable keep by_order by_family map_from pass_of end_rows new_areas pass_ended
+met = (record { layer = refl; let_through = refl; ids = (refl, refl, refl); focus = refl; places = omega arith }, refl, refl)

@@ -1,0 +1,9 @@
+pub mod Egui
+pub mod Methods
+pub mod Calls
+pub mod Kept
+pub mod Modal
+pub mod Under
+pub mod Steps
+pub mod Opens
+pub mod Instance

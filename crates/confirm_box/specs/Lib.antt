@@ -1,0 +1,4 @@
+pub mod KeptOut
+pub mod Modal
+pub mod Rule
+pub mod Instance
