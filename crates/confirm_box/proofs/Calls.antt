@@ -1,5 +1,5 @@
 -- What a call of Memory leaves of its focus, in egui's terms, and what all calls keep that keep it one by one. Assumes nothing.
-use Rattle.std.specs.Prelude.{ℕ, zero, suc, Bool, true, false, cond, not, ◌≡◌, None, List, [], ◌∷◌, take}
+use Rattle.std.specs.Prelude.{ℕ, zero, suc, Bool, true, false, cond, ◌≡◌, None, List, [], ◌∷◌, take}
 use mathlib.Core.Path.{refl, sym, ◌∙◌, subst}
 use borrow.Author.Tests.{not-true}
 use Rattle.refusal.specs.Refusal.{none, lowest, id_refusal, kept}
@@ -146,5 +146,5 @@ unfolding run none_is
 throughout I such step calls m k h zero = k
 throughout I such step [] m k h (suc n) = k
 throughout I such step (call ∷ calls) m k h (suc n) =
-    let (a, b) = both (not (such m call)) _ h in
+    let (a, b) = both _ _ h in
     throughout I such step calls (done_by call m).memory (step m call (not-true (such m call) a) k) b n

@@ -2,7 +2,8 @@
 use mathlib.Core.Path.{◌≡◌, refl}
 use native.Mathlib.Omega.{arith}
 use lib.Ieee.{of_bits, of_fields, lt}
-use Rattle.std.specs.Prelude.{true, Some}
+use Rattle.std.specs.Prelude.{true, map, Some}
+use Rattle.std.specs.List.{list_all}
 use Rattle.refusal.specs.Refusal.{lowest}
 use Rattle.floats.specs.Count as Floats
 use Rattle.grid.specs.Grid.{within, rect_refusal}
@@ -26,11 +27,15 @@ use Rattle.focus.specs.Focus as Focus
 use Rattle.memory_rules.specs.State.{nav_of, new_memory}
 use Rattle.memory_rules.specs.Memory as Memory
 use Rattle.memory_rules.specs.Calls.{done_by}
-use Rattle.confirm_box.specs.KeptOut.{run}
+use Rattle.confirm_box.specs.KeptOut.{kept_out, lets_in, may_focus, run, none_is}
 use Rattle.confirm_box.specs.Modal.{in_force, keeps_under}
 use Rattle.confirm_box.specs.Rule.{Opens, opening}
 use Rattle.confirm_box.specs.Instance.{start, box, calls}
+use Rattle.confirm_box.specs.Needed.{Case, first_of, parts, part_cases, one_each, slips, three, lets_it_in, clauses, breaks, ignored_cases, comes_back}
 
-pub met : Opens start box × (keeps_under box.layer.order 11 (in_force box.layer.order start) true calls ≡ true) × (id_or_nothing (nav_of (run (run start (opening box)) calls)).focused ≡ Some 22)
-unfolding start opening run keeps_under done_by new_memory Memory.begun_of Memory.interested_of Memory.ended_of Memory.ignored_of Memory.requested_next Memory.modal_set Memory.is_allowed Memory.is_above Focus.new_focus Focus.interested_of Focus.ignored_of Focus.requested_next Focus.modal_set Pass.begin_refusal Pass.worst_of Pass.heard_all Pass.is_granted Pass.nav_begun Pass.begin_of Pass.interest_refusal Pass.interest_of Pass.ignore_of filter_of started_of begun_of interested_of ended_of let_go nav_ended cache_ended end_of Used.used_refusal Used.worst_of Used.repeated Used.elem held_in has_id enlisted without full_refusal corners_of cache_on written_on table_of layer_refusal any_of shift_only is_cardinal navigation_of matches_key within rect_refusal Floats.count_of lowest of_bits of_fields lt rank_in spot_in held_rows stable keep by_order by_family map_from pass_of end_rows new_areas pass_ended
-met = (record { layer = refl; let_through = refl; ids = (refl, refl, refl); focus = refl; places = omega arith }, refl, refl)
+pub computed : (Opens start box × (kept_out (run start (opening box)) 11 ≡ true) × (kept_out (run start (opening box)) 12 ≡ true) × (keeps_under box.layer.order 11 (in_force box.layer.order start) true calls ≡ true)
+    × (id_or_nothing (nav_of (run (run start (opening box)) calls)).focused ≡ Some 22))
+    × ((map (λ (c : Case). parts (first_of c)) part_cases ≡ one_each) × (list_all slips part_cases ≡ true) × (list_all lets_it_in three ≡ true))
+    × ((list_all breaks clauses ≡ true) × (list_all comes_back ignored_cases ≡ true))
+unfolding start opening run none_is kept_out lets_in may_focus keeps_under done_by new_memory Memory.begun_of Memory.interested_of Memory.ended_of Memory.ignored_of Memory.requested Memory.requested_next Memory.surrendered Memory.moved Memory.modal_set Memory.is_allowed Memory.is_above Focus.new_focus Focus.interested_of Focus.ignored_of Focus.requested Focus.requested_next Focus.surrendered Focus.moved Focus.modal_set Pass.begin_refusal Pass.worst_of Pass.heard_all Pass.is_granted Pass.nav_begun Pass.begin_of Pass.interest_refusal Pass.interest_of Pass.ignore_of filter_of started_of begun_of interested_of ended_of let_go nav_ended cache_ended end_of Used.used_refusal Used.worst_of Used.repeated Used.elem held_in has_id enlisted without full_refusal corners_of cache_on written_on table_of layer_refusal any_of shift_only is_cardinal navigation_of matches_key within rect_refusal Floats.count_of lowest of_bits of_fields lt rank_in spot_in held_rows stable keep by_order by_family map_from pass_of end_rows new_areas pass_ended
+computed = ((record { layer = refl; let_through = refl; ids = (refl, refl, refl); focus = refl; places = omega arith }, refl, refl, refl, refl), (refl, refl, refl), (refl, refl))

@@ -1,5 +1,5 @@
 -- Every call leaves an id kept out that is, but for three; and one that is ignored is not focused before some. Assumes nothing.
-use Rattle.std.specs.Prelude.{ℕ, Bool, true, false, cond, not, ◌≡◌, Option, None, Some, List, take, eqb}
+use Rattle.std.specs.Prelude.{ℕ, Bool, true, false, cond, ◌≡◌, Option, None, Some, List, take, eqb}
 use mathlib.Core.Bool.{and-true}
 use mathlib.Core.Path.{refl, sym, ap, ◌∙◌, subst}
 use mathlib.Core.Bool.{true≢false}
@@ -100,9 +100,9 @@ module _ (p : ℕ) where
   pub in_words : (m : Memory) → kept_out m p ≡ true → KeptOut (focus_in m)
   unfolding kept_out
   in_words m h =
-      let (a, r) = both (not (is_focused m p)) _ h in
-      let (b, s) = both (not (waits m p)) _ r in
-      let (c, d) = both (not (was_last m p)) _ s in
+      let (a, r) = both _ _ h in
+      let (b, s) = both _ _ r in
+      let (c, d) = both _ _ s in
       ((ap (λ (o : Option ℕ). is o p) (focused_means (nav_of m)) ∙ not-true (is_focused m p) a, not-true (is_cached m p) d), not-true (was_last m p) c, not-true (waits m p) b)
 
   pub is_kept : (m : Memory) → KeptOut (focus_in m) → kept_out m p ≡ true
@@ -142,12 +142,14 @@ module _ (p : ℕ) where
     unfolding may_focus
     ignore_call id u = keeps m Unfocused _ unfocused_moves unfocused_methods (IgnoreFocus id) refl u
 
-  pub list_kept : (m : Memory) (calls : List Call) → kept_out m p ≡ true → none_is (lets_in p) m calls ≡ true → (n : ℕ) → kept_out (run m (take n calls)) p ≡ true
-  list_kept m calls k h = throughout (λ k. kept_out k p ≡ true) (lets_in p) (λ k call ok h. call_kept k call h ok) calls m k h
-
   -- ---- ignored
   pub not_focused : (m : Memory) → Unfocused (focus_in m) → is_focused m p ≡ false
   not_focused m u = rw (← focused_means (nav_of m)) u.0
+
+  pub list_kept : (m : Memory) (calls : List Call) → kept_out m p ≡ true → none_is (lets_in p) m calls ≡ true → (n : ℕ) → (kept_out (run m (take n calls)) p ≡ true) × (is_focused (run m (take n calls)) p ≡ false)
+  list_kept m calls k h n =
+      let kept = throughout (λ k. kept_out k p ≡ true) (lets_in p) (λ k call ok h. call_kept k call h ok) calls m k h n in
+      (kept, not_focused (run m (take n calls)) (in_words (run m (take n calls)) kept).0)
 
   pub ignored : (m : Memory) → eqb p 0 ≡ false → Unfocused (focus_in (done_by (IgnoreFocus p) m).memory)
   unfolding done_by focus_after ignored_of ByValue.ignored_of ignore_of

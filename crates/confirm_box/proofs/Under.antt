@@ -158,7 +158,7 @@ module _ (order p : ℕ) where
     want_goes : (id : ℕ) (layer : LayerId) → Goes (Interest id layer)
     unfolding keeps_under lets_in is_plain
     want_goes id layer h k next =
-        let (a, b) = both (not (eqb id p) || (last && ltb layer.order order)) _ h in
+        let (a, b) = both _ _ h in
         next last now (away (eqb id p) a) (plain order m last now (Interest id layer) refl k) b
       where
         in_force_now : last ≡ true → in_force order m ≡ true
@@ -170,11 +170,11 @@ module _ (order p : ℕ) where
 
     ask_goes : (id : ℕ) → Goes (RequestFocus id)
     unfolding keeps_under lets_in is_plain
-    ask_goes id h k next = let (a, b) = both (not (eqb id p)) _ h in next last now (not-true (eqb id p) a) (plain order m last now (RequestFocus id) refl k) b
+    ask_goes id h k next = let (a, b) = both _ _ h in next last now (not-true (eqb id p) a) (plain order m last now (RequestFocus id) refl k) b
 
     ask_next_goes : (id : ℕ) → Goes (RequestFocusNextFrame id)
     unfolding keeps_under lets_in is_plain
-    ask_next_goes id h k next = let (a, b) = both (not (eqb id p)) _ h in next last now (not-true (eqb id p) a) (plain order m last now (RequestFocusNextFrame id) refl k) b
+    ask_next_goes id h k next = let (a, b) = both _ _ h in next last now (not-true (eqb id p) a) (plain order m last now (RequestFocusNextFrame id) refl k) b
 
     -- an end that is refused ends no pass
     end_goes : (used : List Candidate) → Goes (End used)

@@ -4,12 +4,13 @@ use Rattle.std.specs.Float.{binary32}
 use Rattle.std.specs.Float.Ieee.{of_bits}
 use Rattle.emath.specs.declared.Pos2.{Pos2}
 use Rattle.input.specs.declared.Event.TheVariants.{Key, AccessKitFocus}
+use Rattle.input.specs.FocusDirection.{previous}
 use Rattle.input.specs.Key.{tab}
 use Rattle.layers.specs.declared.LayerId.{LayerId}
 use Rattle.search.specs.declared.Candidate.{Candidate}
 use Rattle.memory_rules.specs.declared.Memory.{Memory}
 use Rattle.memory_rules.specs.State.{new_memory}
-use Rattle.memory_rules.specs.Calls.{Call, Begin, End, SetModalLayer}
+use Rattle.memory_rules.specs.Calls.{Call, Begin, End, RequestFocus, RequestFocusNextFrame, MoveFocus, SetModalLayer}
 use Rattle.confirm_box.specs.KeptOut.{run}
 use Rattle.confirm_box.specs.Rule.{Box, wanting}
 
@@ -23,9 +24,9 @@ under = 11 ∷ 12 ∷ []
 abbrev pub box : Box
 box = record { layer = record { order = 2; id = 9 }; fields = 21 ∷ 22 ∷ []; focus = 21; under = under; freed = [] }
 
--- the pass so far: the interest calls of the page
+-- the pass so far: the page's interest calls, one of its fields focused, the other waiting for the next begin, and the focus to go to the field before
 unfoldable pub start : Memory
-start = run new_memory (wanting page under)
+start = run new_memory (wanting page under ++ (RequestFocus 11 ∷ RequestFocusNextFrame 12 ∷ MoveFocus previous ∷ []))
 
 -- ---- all four are used, at one place
 abbrev pub origin : Pos2

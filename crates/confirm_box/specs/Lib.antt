@@ -2,3 +2,4 @@ pub mod KeptOut
 pub mod Modal
 pub mod Rule
 pub mod Instance
+pub mod Needed

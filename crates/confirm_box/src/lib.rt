@@ -2,7 +2,8 @@
 // its box is open, Rule.antt how it opens one.
 #![tactic(auto)]
 
-ghost use Rattle.std.specs.Prelude.{◌≡◌, ◌≤◌, ◌+◌, Some, ℕ, Bool, true, false, List, length, ltb, take};
+ghost use Rattle.std.specs.Prelude.{◌≡◌, ◌≤◌, ◌+◌, Some, ℕ, Bool, true, false, List, length, ltb, map, take};
+ghost use Rattle.std.specs.List.{list_all};
 ghost use Rattle.layers.specs.declared.LayerId.{LayerId};
 ghost use Rattle.used.specs.Used.{elem, repeated};
 ghost use Rattle.focus_rules.specs.Rules.{id_or_nothing};
@@ -14,6 +15,7 @@ ghost use Rattle.confirm_box.specs.KeptOut.{is_focused, kept_out, lets_in, may_f
 ghost use Rattle.confirm_box.specs.Modal.{is_under, in_force, is_set, keeps_under};
 ghost use Rattle.confirm_box.specs.Rule.{Box, Opens, opening, ignoring, all_cached, held, room, is_refused};
 ghost use Rattle.confirm_box.specs.Instance as Instance;
+ghost use Rattle.confirm_box.specs.Needed as Needed;
 
 // From every state every call of Memory, with any arguments, refused or not, leaves an id kept out that is, but for three: an interest call for it that is let through, and a request of it, for now or for
 // the next pass. There is nothing to run.
@@ -23,7 +25,8 @@ pub fn call_keeps_out()
 
 // So through any list of calls without those three, after each of them, it is kept out, and not focused. There is nothing to run.
 pub fn list_keeps_out()
-    ensures { (p : ℕ) (m : Memory) (calls : List Call) → kept_out m p ≡ true → none_is (lets_in p) m calls ≡ true → (n : ℕ) → kept_out (run m (take n calls)) p ≡ true }
+    ensures { (p : ℕ) (m : Memory) (calls : List Call) → kept_out m p ≡ true → none_is (lets_in p) m calls ≡ true →
+        (n : ℕ) → (kept_out (run m (take n calls)) p ≡ true) × (is_focused (run m (take n calls)) p ≡ false) }
 {}
 
 // An interest call for a layer below the modal layer in force leaves the memory as it was, every number of it, whatever its id. There is nothing to run.
@@ -66,9 +69,22 @@ pub fn ignored_is_not_focused()
         (n : ℕ) → is_focused (run (done_by (IgnoreFocus p) m).memory (take n calls)) p ≡ false }
 {}
 
-// The premises can be met, so that these are no theorems about nothing: they hold of a box of two fields over a page of two, and of two passes after it with a Shift+Tab and a request of a field under it, after which
-// the second field of the box is focused. There is nothing to run.
+// The premises can be met, so that these are no theorems about nothing: they hold of a box of two fields over a page of two, one of them focused and the other waiting for the next begin, and of two passes after
+// the box is opened, with a Shift+Tab and a request of a field under it: both fields are kept out, and at the end the second field of the box is focused. There is nothing to run.
 pub fn premises_can_be_met()
-    ensures { Opens Instance.start Instance.box × (keeps_under Instance.box.layer.order 11 (in_force Instance.box.layer.order Instance.start) true Instance.calls ≡ true)
+    ensures { Opens Instance.start Instance.box
+        × (kept_out (run Instance.start (opening Instance.box)) 11 ≡ true) × (kept_out (run Instance.start (opening Instance.box)) 12 ≡ true)
+        × (keeps_under Instance.box.layer.order 11 (in_force Instance.box.layer.order Instance.start) true Instance.calls ≡ true)
         × (id_or_nothing (nav_of (run (run Instance.start (opening Instance.box)) Instance.calls)).focused ≡ Some 22) }
+{}
+
+// Each of the four parts is needed, and each of the three calls is an exception: in four cases one part alone says that a field is not kept out, and it is focused without one of the three calls; and each of the three lets a
+// field in that was kept out. There is nothing to run.
+pub fn parts_are_needed()
+    ensures { (map (λ (c : Needed.Case). Needed.parts (Needed.first_of c)) Needed.part_cases ≡ Needed.one_each) × (list_all Needed.slips Needed.part_cases ≡ true) × (list_all Needed.lets_it_in Needed.three ≡ true) }
+{}
+
+// Each clause of what a program keeps to while its box is open is needed, and each of what may focus an ignored id: where one alone is broken a field comes in. There is nothing to run.
+pub fn clauses_are_needed()
+    ensures { (list_all Needed.breaks Needed.clauses ≡ true) × (list_all Needed.comes_back Needed.ignored_cases ≡ true) }
 {}

@@ -1,0 +1,98 @@
+-- What each part of a definition is needed for: short lists of calls, each with the part alone in the way, that let field 12 in. Definitions only.
+use Rattle.std.specs.Prelude.{ℕ, Bool, true, false, not, ◌&&◌, List, [], ◌∷◌}
+use Rattle.std.specs.Float.{binary32}
+use Rattle.std.specs.Float.Ieee.{of_bits}
+use Rattle.emath.specs.declared.Pos2.{Pos2}
+use Rattle.input.specs.declared.Event.TheVariants.{AccessKitFocus}
+use Rattle.input.specs.FocusDirection.{previous}
+use Rattle.layers.specs.declared.LayerId.{LayerId}
+use Rattle.search.specs.declared.Candidate.{Candidate}
+use Rattle.memory_rules.specs.declared.Memory.{Memory}
+use Rattle.memory_rules.specs.State.{new_memory}
+use Rattle.memory_rules.specs.Calls.{Call, Begin, Interest, End, RequestFocus, RequestFocusNextFrame, IgnoreFocus, MoveFocus, SetModalLayer, done_by}
+use Rattle.confirm_box.specs.KeptOut.{is_focused, waits, was_last, is_cached, kept_out, lets_in, may_focus, run, none_is}
+use Rattle.confirm_box.specs.Modal.{keeps_under}
+use Rattle.confirm_box.specs.Instance.{page, box}
+
+-- from a new memory: calls, and more calls after them
+pub record Case : Type 0 where
+  pub before : List Call
+  pub calls : List Call
+
+abbrev pub first_of : Case → Memory
+first_of c = run new_memory c.before
+
+abbrev pub last_of : Case → Memory
+last_of c = run (first_of c) c.calls
+
+abbrev pub in_box : ℕ → Call
+in_box id = Interest id box.layer
+
+abbrev pub on_page : ℕ → Call
+on_page id = Interest id page
+
+-- ---- the four parts: in each case one of them alone says that 12 is not kept out, and it is focused without one of the three calls
+abbrev pub parts : Memory → List Bool
+parts m = is_focused m 12 ∷ waits m 12 ∷ was_last m 12 ∷ is_cached m 12 ∷ []
+
+abbrev pub part_cases : List Case
+part_cases =
+    record { before = RequestFocus 12 ∷ []; calls = [] }
+    ∷ record { before = RequestFocusNextFrame 12 ∷ []; calls = Begin [] ∷ [] }
+    ∷ record { before = on_page 12 ∷ IgnoreFocus 12 ∷ []; calls = MoveFocus previous ∷ in_box 21 ∷ [] }
+    ∷ record { before = on_page 12 ∷ in_box 21 ∷ []; calls = Begin (AccessKitFocus 12 ∷ []) ∷ [] }
+    ∷ []
+
+abbrev pub one_each : List (List Bool)
+one_each = (true ∷ false ∷ false ∷ false ∷ []) ∷ (false ∷ true ∷ false ∷ false ∷ []) ∷ (false ∷ false ∷ true ∷ false ∷ []) ∷ (false ∷ false ∷ false ∷ true ∷ []) ∷ []
+
+abbrev pub slips : Case → Bool
+slips c = not (kept_out (first_of c) 12) && (none_is (lets_in 12) (first_of c) c.calls && is_focused (last_of c) 12)
+
+-- ---- the three calls: each lets 12 in
+abbrev pub three : List Call
+three = on_page 12 ∷ RequestFocus 12 ∷ RequestFocusNextFrame 12 ∷ []
+
+abbrev pub lets_it_in : Call → Bool
+lets_it_in call = lets_in 12 new_memory call && not (kept_out (done_by call new_memory).memory 12)
+
+-- ---- what a program keeps to while a box of Order 2 is open: in each case one clause alone says that the calls do not, and they let 12 in
+abbrev pub used : List Candidate
+used = []
+
+-- refused, since id 0 is none
+abbrev pub bad_used : List Candidate
+bad_used = let origin : Pos2 = record { x = of_bits binary32 0; y = of_bits binary32 0 } in record { id = 0; rect = record { min = origin; max = origin } } ∷ []
+
+abbrev pub layer_of : ℕ → LayerId
+layer_of order = record { order = order; id = 8 }
+
+abbrev pub clauses : List (List Call)
+clauses =
+    -- requests
+    (RequestFocus 12 ∷ [])
+    ∷ (RequestFocusNextFrame 12 ∷ [])
+    -- an interest call before the layer is in force, with a layer of its own Order, or with one of a higher
+    ∷ (SetModalLayer box.layer ∷ on_page 12 ∷ [])
+    ∷ (SetModalLayer box.layer ∷ End used ∷ Interest 12 (layer_of 2) ∷ [])
+    -- the layer set by a refused call, or a lower one set
+    ∷ (SetModalLayer (layer_of 7) ∷ End used ∷ on_page 12 ∷ [])
+    ∷ (SetModalLayer (layer_of 1) ∷ End used ∷ on_page 12 ∷ [])
+    -- the layer not set again, or the pass not ended
+    ∷ (SetModalLayer box.layer ∷ End used ∷ End used ∷ on_page 12 ∷ [])
+    ∷ (SetModalLayer box.layer ∷ End bad_used ∷ on_page 12 ∷ [])
+    ∷ []
+
+abbrev pub breaks : List Call → Bool
+breaks calls = not (keeps_under box.layer.order 12 false false calls) && not (kept_out (run new_memory calls) 12)
+
+-- ---- after an ignore of 12: in each case one clause alone says that the calls may focus it, and they do
+abbrev pub ignored_cases : List Case
+ignored_cases =
+    record { before = RequestFocusNextFrame 12 ∷ IgnoreFocus 12 ∷ []; calls = Begin [] ∷ [] }
+    ∷ record { before = on_page 12 ∷ MoveFocus previous ∷ IgnoreFocus 12 ∷ []; calls = in_box 21 ∷ [] }
+    ∷ record { before = IgnoreFocus 12 ∷ []; calls = RequestFocus 12 ∷ [] }
+    ∷ []
+
+abbrev pub comes_back : Case → Bool
+comes_back c = not (none_is (may_focus 12) (first_of c) c.calls) && is_focused (last_of c) 12
