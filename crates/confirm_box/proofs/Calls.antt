@@ -1,7 +1,9 @@
 -- What a call of Memory leaves of its focus, in egui's terms, and what all calls keep that keep it one by one. Assumes nothing.
-use Rattle.std.specs.Prelude.{ℕ, zero, suc, Bool, true, false, cond, ◌≡◌, None, List, [], ◌∷◌, take}
+use Rattle.std.specs.Prelude.{ℕ, zero, suc, Bool, true, false, cond, ◌≡◌, None, List, [], ◌∷◌, take, length}
 use mathlib.Core.Path.{refl, sym, ◌∙◌, subst}
-use borrow.Author.Tests.{not-true}
+use borrow.Author.Tests.{not-true, eqb-false}
+use lib.Seq.{take_all}
+use native.Mathlib.Omega.{arith}
 use Rattle.refusal.specs.Refusal.{none, lowest, id_refusal, kept}
 use Rattle.refusal.proofs.Laws.{both_none}
 use Rattle.input.specs.declared.Event.{Event}
@@ -15,9 +17,10 @@ use Rattle.memory_rules.specs.declared.Memory.{Memory}
 use Rattle.memory_rules.specs.State.{focus_of, with_focus}
 use Rattle.memory_rules.specs.Memory.{is_allowed, stays_modal, is_popup_open, begun_of, ended_of, interested_of, filter_set, requested, requested_next, surrendered, ignored_of, moved, modal_set, text_stopped, popup_kept, closed, toggled}
 use Rattle.memory_rules.specs.Calls.{Call, Begin, Interest, End, SetFocusLockFilter, RequestFocus, RequestFocusNextFrame, SurrenderFocus, IgnoreFocus, MoveFocus, SetModalLayer, StopTextInput, ResetAreas, InterruptIme, OpenPopupAt, KeepPopupOpen, ClosePopup, TogglePopup, CloseAllPopups, SetEverythingIsVisible, SetState, MoveToTop, SetSublayer, done_by}
-use Rattle.confirm_box.specs.KeptOut.{run, none_is}
+use Rattle.confirm_box.specs.KeptOut.{is_taken, run, none_is}
 use Rattle.confirm_box.proofs.Egui.{both, either}
 use Rattle.confirm_box.proofs.Methods.{Moves, letgo_keeps, filter_keeps}
+use Rattle.memory_rules.proofs.Refused.{refused as nothing_changed}
 use Rattle.memory_maps.proofs.Focuses.{Leaves, taken, begun_leaves, ended_leaves}
 
 -- the focus, in egui's terms
@@ -139,6 +142,14 @@ module _ (m : Memory) (P : Egui.Focus → Type 0) (Ok : Call → Type 0) where
         go zero = accepted call ok (focus_in m) k
         go (suc r) = k
 
+-- a call that is refused leaves the memory as it was
+pub unless_refused : (I : Memory → Type 0) (m : Memory) (call : Call) → (is_taken m call ≡ true → I (done_by call m).memory) → I m → I (done_by call m).memory
+unless_refused I m call step k = go (is_taken m call) refl
+  where
+    go : (b : Bool) → is_taken m call ≡ b → I (done_by call m).memory
+    go true e = step e
+    go false e = subst I (sym (nothing_changed m call (eqb-false (done_by call m).refusal 0 e))) k
+
 -- ---- lists of calls: what each call keeps that is not such a call, is kept throughout
 pub throughout : (I : Memory → Type 0) (such : Memory → Call → Bool) → ((m : Memory) (call : Call) → such m call ≡ false → I m → I (done_by call m).memory)
     → (calls : List Call) (m : Memory) → I m → none_is such m calls ≡ true → (n : ℕ) → I (run m (take n calls))
@@ -148,3 +159,8 @@ throughout I such step [] m k h (suc n) = k
 throughout I such step (call ∷ calls) m k h (suc n) =
     let (a, b) = both _ _ h in
     throughout I such step calls (done_by call m).memory (step m call (not-true (such m call) a) k) b n
+
+-- and so at the end
+pub at_end : (I : Memory → Type 0) (such : Memory → Call → Bool) → ((m : Memory) (call : Call) → such m call ≡ false → I m → I (done_by call m).memory)
+    → (calls : List Call) (m : Memory) → I m → none_is such m calls ≡ true → I (run m calls)
+at_end I such step calls m k h = rw (take_all (length calls) calls (omega arith)) at (throughout I such step calls m k h (length calls))

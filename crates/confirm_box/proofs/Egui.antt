@@ -77,6 +77,15 @@ module _ (p : ℕ) where
       go None a b = b
       go (Some rect) a b = rw a b
 
+pub has_more : (l : List Candidate) (d : Candidate) (id : ℕ) → has_id l id ≡ true → has_id (l ++ (d ∷ [])) id ≡ true
+unfolding has_id
+has_more [] d id h = absurd (false≢true h)
+has_more (e ∷ l) d id h = go (eqb e.id id) h (has_more l d id)
+  where
+    go : (b : Bool) → (b || has_id l id) ≡ true → (has_id l id ≡ true → has_id (l ++ (d ∷ [])) id ≡ true) → (b || has_id (l ++ (d ∷ [])) id) ≡ true
+    go true h more = refl
+    go false h more = more h
+
 pub enlisted_length : (l : List Candidate) (id : ℕ) → length (enlisted l id) ≤ suc (length l)
 unfolding enlisted
 enlisted_length l id = either (λ (c : List Candidate). length c ≤ suc (length l)) (has_id l id) (omega arith) (simp length-append (omega arith))

@@ -1,5 +1,5 @@
 -- Every call leaves an id kept out that is, but for three; and one that is ignored is not focused before some. Assumes nothing.
-use Rattle.std.specs.Prelude.{ℕ, Bool, true, false, cond, ◌≡◌, Option, None, Some, List, take, eqb}
+use Rattle.std.specs.Prelude.{ℕ, Bool, true, false, cond, ◌&&◌, ◌≡◌, Option, None, Some, List, take, eqb}
 use mathlib.Core.Bool.{and-true}
 use mathlib.Core.Path.{refl, sym, ap, ◌∙◌, subst}
 use mathlib.Core.Bool.{true≢false}
@@ -14,12 +14,12 @@ use Rattle.focus_maps.specs.Egui.{Focus, is, focused, with_widget, with_frames, 
 use Rattle.focus_maps.proofs.Means.{focused_means}
 use Rattle.memory_rules.specs.declared.Memory.{Memory}
 use Rattle.memory_rules.specs.State.{nav_of}
-use Rattle.memory_rules.specs.Memory.{ignored_of}
+use Rattle.memory_rules.specs.Memory.{is_allowed, ignored_of}
 use Rattle.memory_rules.specs.Calls.{Call, IgnoreFocus, done_by}
-use Rattle.confirm_box.specs.KeptOut.{is_focused, waits, was_last, is_cached, kept_out, lets_in, may_focus, run, none_is}
+use Rattle.confirm_box.specs.KeptOut.{is_focused, waits, was_last, is_cached, kept_out, names, lets_in, may_bring, may_focus, run, none_is}
 use Rattle.confirm_box.proofs.Egui.{both, widget_is, is_same, other_id, not_enlisted, not_without, itself_without, not_updated}
 use Rattle.confirm_box.proofs.Methods.{Moves, Finds, Hands, all_heard, ended, ruled_keeps, letgo_keeps}
-use Rattle.confirm_box.proofs.Calls.{focus_in, focus_after, leaves, Methods, keeps, throughout}
+use Rattle.confirm_box.proofs.Calls.{focus_in, focus_after, leaves, Methods, keeps, unless_refused, throughout}
 
 -- 0 is no id
 nothing_is : (id p : ℕ) → p ≡ 0 → is (id_or_nothing id) p ≡ false
@@ -29,6 +29,10 @@ nothing_is id p z = rw z (go (eqb id 0) refl)
     go true e = refl
     go false e = e
 
+-- a call that is let through and does not name p is for another
+pub another : (p id : ℕ) (allowed : Bool) → allowed ≡ true → (eqb id p && allowed) ≡ false → eqb id p ≡ false
+another p id allowed e h = sym (rw e (and-true (eqb id p))) ∙ h
+
 module _ (p : ℕ) where
   -- ---- p is neither focused nor cached; nor the id last interested, nor the id of the next frame
   abbrev pub Unfocused : Focus → Type 0
@@ -37,10 +41,10 @@ module _ (p : ℕ) where
   abbrev pub KeptOut : Focus → Type 0
   KeptOut f = Unfocused f × (is f.last_interested p ≡ false) × (is f.id_next_frame p ≡ false)
 
-  unfocused_moves : Moves Unfocused
+  pub unfocused_moves : Moves Unfocused
   unfocused_moves = record { turn = λ f d k. k; give = λ f on k. k; drop = λ f k. (refl, k.1); filter = λ f id filter e k. (is_same (focused f) id p e k.0, k.1) }
 
-  unfocused_finds : Finds Unfocused
+  pub unfocused_finds : Finds Unfocused
   unfocused_finds f id e k = (other_id p f.focus_widgets_cache id k.1 e, k.1)
 
   kept_moves : Moves KeptOut
@@ -61,7 +65,7 @@ module _ (p : ℕ) where
   unfolding begin_pass
   begin_kept events f k = all_heard KeptOut kept_moves kept_finds events _ _ None (handed (with_frames f (focused f) f.id_previous_frame) f.id_next_frame k.2 k)
 
-  end_unfocused : (used : List Candidate) (f : Focus) → Unfocused f → Unfocused (end_pass f used)
+  pub end_unfocused : (used : List Candidate) (f : Focus) → Unfocused f → Unfocused (end_pass f used)
   unfolding end_pass
   end_unfocused used f u = ended Unfocused unfocused_moves unfocused_finds used (λ g v. (v.0, not_updated p used g.focus_widgets_cache v.1)) f u
 
@@ -109,13 +113,18 @@ module _ (p : ℕ) where
   unfolding kept_out
   is_kept m (u, l, n) = rw (← focused_means (nav_of m), u.0, u.1, l, n)
 
-  -- ---- every call
+  pub not_focused : (m : Memory) → Unfocused (focus_in m) → is_focused m p ≡ false
+  not_focused m u = rw (← focused_means (nav_of m)) u.0
+
+  pub kept_unfocused : (m : Memory) → kept_out m p ≡ true → is_focused m p ≡ false
+  kept_unfocused m k = not_focused m (in_words m k).0
+
+  -- ---- every call that is taken
   module _ (m : Memory) where
-    kept_methods : Methods m KeptOut (λ call. lets_in p m call ≡ false)
-    unfolding lets_in
+    kept_methods : Methods m KeptOut (λ call. names p m call ≡ false)
     kept_methods = record {
       begin = λ events ok. begin_kept events;
-      want = λ id layer ok allowed. interest_kept id (sym (rw allowed (and-true (eqb id p))) ∙ ok);
+      want = λ id layer ok allowed. interest_kept id (another p id (is_allowed m layer) allowed ok);
       end = λ used ok. end_kept used;
       ask = λ id ok f k. ((ok, k.0.1), k.1, k.2);
       ask_next = λ id ok f k. (k.0, k.1, ok);
@@ -123,11 +132,7 @@ module _ (p : ℕ) where
       set = λ layer ok f k. k;
     }
 
-    pub call_kept : (call : Call) → kept_out m p ≡ true → lets_in p m call ≡ false → kept_out (done_by call m).memory p ≡ true
-    call_kept call h ok = is_kept (done_by call m).memory (keeps m KeptOut _ kept_moves kept_methods call ok (in_words m h))
-
-    unfocused_methods : Methods m Unfocused (λ call. may_focus p m call ≡ false)
-    unfolding may_focus
+    unfocused_methods : Methods m Unfocused (λ call. may_bring p m call ≡ false)
     unfocused_methods = record {
       begin = λ events ok. absurd (true≢false ok);
       want = λ id layer ok allowed. absurd (true≢false (sym allowed ∙ ok));
@@ -138,18 +143,20 @@ module _ (p : ℕ) where
       set = λ layer ok f k. k;
     }
 
-    pub ignore_call : (id : ℕ) → Unfocused (focus_in m) → Unfocused (focus_in (done_by (IgnoreFocus id) m).memory)
+    -- refused or not
+    pub call_kept : (call : Call) → kept_out m p ≡ true → lets_in p m call ≡ false → kept_out (done_by call m).memory p ≡ true
+    unfolding lets_in
+    call_kept call h ok = unless_refused (λ k. kept_out k p ≡ true) m call (λ t. is_kept (done_by call m).memory (keeps m KeptOut _ kept_moves kept_methods call (rw t at ok) (in_words m h))) h
+
+    unfocused_call : (call : Call) → may_focus p m call ≡ false → Unfocused (focus_in m) → Unfocused (focus_in (done_by call m).memory)
     unfolding may_focus
-    ignore_call id u = keeps m Unfocused _ unfocused_moves unfocused_methods (IgnoreFocus id) refl u
+    unfocused_call call ok u = unless_refused (λ k. Unfocused (focus_in k)) m call (λ t. keeps m Unfocused _ unfocused_moves unfocused_methods call (rw t at ok) u) u
 
   -- ---- ignored
-  pub not_focused : (m : Memory) → Unfocused (focus_in m) → is_focused m p ≡ false
-  not_focused m u = rw (← focused_means (nav_of m)) u.0
-
   pub list_kept : (m : Memory) (calls : List Call) → kept_out m p ≡ true → none_is (lets_in p) m calls ≡ true → (n : ℕ) → (kept_out (run m (take n calls)) p ≡ true) × (is_focused (run m (take n calls)) p ≡ false)
   list_kept m calls k h n =
       let kept = throughout (λ k. kept_out k p ≡ true) (lets_in p) (λ k call ok h. call_kept k call h ok) calls m k h n in
-      (kept, not_focused (run m (take n calls)) (in_words (run m (take n calls)) kept).0)
+      (kept, kept_unfocused (run m (take n calls)) kept)
 
   pub ignored : (m : Memory) → eqb p 0 ≡ false → Unfocused (focus_in (done_by (IgnoreFocus p) m).memory)
   unfolding done_by focus_after ignored_of ByValue.ignored_of ignore_of
@@ -163,4 +170,4 @@ module _ (p : ℕ) where
 
       go : (b : Bool) → eqb p 0 ≡ b → is_focused (run first (take n calls)) p ≡ false
       go true z = nothing_is (nav_of (run first (take n calls))).focused p (eqb-true p 0 z)
-      go false z = not_focused (run first (take n calls)) (throughout (λ k. Unfocused (focus_in k)) (may_focus p) (λ k call ok u. keeps k Unfocused _ unfocused_moves (unfocused_methods k) call ok u) calls first (ignored m z) h n)
+      go false z = not_focused (run first (take n calls)) (throughout (λ k. Unfocused (focus_in k)) (may_focus p) unfocused_call calls first (ignored m z) h n)

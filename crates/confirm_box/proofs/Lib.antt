@@ -5,5 +5,7 @@ pub mod Kept
 pub mod Modal
 pub mod Under
 pub mod Steps
+pub mod Out
 pub mod Opens
+pub mod Places
 pub mod Instance

@@ -21,7 +21,7 @@ pub under_away : (m : Memory) (layer : LayerId) → is_under m layer ≡ true �
 unfolding is_allowed is_above
 under_away m layer h = let (a, b) = both (not (eqb (nav_of m).top_modal_layer.id 0)) (is_below m layer (nav_of m).top_modal_layer) h in rw (not-true (eqb (nav_of m).top_modal_layer.id 0) a, b)
 
-pub away_stays : (m : Memory) (id : ℕ) (layer : LayerId) → is_allowed m layer ≡ false → (done_by (Interest id layer) m).memory ≡ m
+away_stays : (m : Memory) (id : ℕ) (layer : LayerId) → is_allowed m layer ≡ false → (done_by (Interest id layer) m).memory ≡ m
 unfolding done_by interested_of
 away_stays m id layer h = rw h (go (lowest (lowest (id_refusal id) (layer_refusal layer)) none))
   where
@@ -56,5 +56,5 @@ module _ (m : Memory) (layer modal : LayerId) where
       go true e = absurd (true≢false (sym (lower_below (ltb-true layer.order modal.order e)) ∙ h))
       go false e = ltb-false layer.order modal.order e
 
-pub under_stays : (m : Memory) (id : ℕ) (layer : LayerId) → is_under m layer ≡ true → (done_by (Interest id layer) m).memory ≡ m
-under_stays m id layer h = away_stays m id layer (under_away m layer h)
+pub under_stays : (m : Memory) (id : ℕ) (layer : LayerId) → is_under m layer ≡ true → (is_allowed m layer ≡ false) × ((done_by (Interest id layer) m).memory ≡ m)
+under_stays m id layer h = let away = under_away m layer h in (away, away_stays m id layer away)

@@ -1,104 +1,96 @@
--- The rule by which a box is opened: none of its calls is refused, it keeps every field under it out, and sets the box's layer; and ignored ids free their places. Assumes nothing.
-use Rattle.std.specs.Prelude.{ℕ, Bool, true, false, cond, ◌||◌, ◌≡◌, ◌≤◌, ◌<◌, ◌+◌, Option, List, [], ◌∷◌, take, eqb, length}
+-- The rule by which a box is opened keeps every field under it out, and sets the box's layer: where none of its calls is refused. Assumes nothing.
+use Rattle.std.specs.Prelude.{ℕ, Bool, true, false, not, ◌||◌, ◌≡◌, Option, Some, List, [], ◌∷◌, take, eqb}
 use mathlib.Core.Path.{refl, sym, ap, ◌∙◌, subst}
-use mathlib.Core.Bool.{true≢false, false≢true}
+use mathlib.Core.Bool.{true≢false, false≢true, and-false}
 use native.Mathlib.Omega.{arith}
-use borrow.Author.Tests.{eqb-true, eqb-false, ne_eqb}
+use borrow.Author.Tests.{eqb-true}
 use Rattle.std.proofs.lemmas.Bool.{le-leb}
 use Rattle.layers.specs.declared.LayerId.{LayerId}
-use Rattle.layers.specs.Layers.{layer_refusal}
-use Rattle.search.specs.declared.Candidate.{Candidate}
-use Rattle.used.specs.Used.{elem, repeated}
-use Rattle.focus_cache.specs.Cache.{has_id, without}
-use Rattle.focus_cache.proofs.Entries.{held_length, without_length}
-use Rattle.focus_maps.specs.Egui.{is}
+use Rattle.used.specs.Used.{elem}
+use Rattle.focus_maps.specs.Egui.{Focus, is}
+use Rattle.focus_rules.specs.Rules.{id_or_nothing}
 use Rattle.memory_rules.specs.declared.Memory.{Memory}
-use Rattle.memory_rules.specs.State.{focus_of, nav_of}
+use Rattle.memory_rules.specs.State.{nav_of}
 use Rattle.memory_rules.specs.Memory.{is_allowed}
 use Rattle.memory_rules.specs.Calls.{Call, Interest, IgnoreFocus, RequestFocusNextFrame, SetModalLayer, done_by}
-use Rattle.confirm_box.specs.KeptOut.{is_cached, is_focused, kept_out, run, none_is}
+use Rattle.confirm_box.specs.KeptOut.{is_taken, kept_out, lets_in, run, none_is}
 use Rattle.confirm_box.specs.Modal.{in_force, keeps_under}
-use Rattle.confirm_box.specs.Rule.{Box, Opens, opening, ignoring, wanting, all_cached, held, room, is_refused}
-use Rattle.confirm_box.proofs.Egui.{both, neither}
-use Rattle.confirm_box.proofs.Calls.{focus_in}
-use Rattle.confirm_box.proofs.Kept.{Unfocused, KeptOut, ignored, ignore_call, is_kept, in_words, not_focused}
-use Rattle.confirm_box.proofs.Under.{Flags, at_least, modal_means, is_plain, plain, set_after, under_kept}
-use Rattle.confirm_box.proofs.Steps.{Quiet, nothing_quiet, both_quiet, quiet_allowed, run_append, none_append, each_keeps, want_other, ignore_last, taken, set_taken, set_held, set_quiet, ignore_taken, ignore_quiet, ignore_cache, next_taken, next_after, want_taken, want_quiet, want_last, want_held}
+use Rattle.confirm_box.specs.Rule.{Box, Opens, Spread, Spreads, opening, spread, ignoring, wanting, disturbs, is_refused}
+use Rattle.confirm_box.proofs.Egui.{neither}
+use Rattle.confirm_box.proofs.Calls.{focus_in, at_end}
+use Rattle.confirm_box.proofs.Kept.{another, Unfocused, ignored}
+use Rattle.confirm_box.proofs.Under.{Flags, Out as KeptAndUnfocused, at_least, modal_means, is_plain, plain, set_after, under_kept}
+use Rattle.confirm_box.proofs.Steps.{Quiet, both_quiet, quiet_allowed, ignoring_quiet, run_append, none_first, none_split, each_keeps, set_quiet, next_taken, want_last, next_after, id_taken}
+use Rattle.confirm_box.proofs.Out.{Passed, Out, call_passed, call_out, shut}
 
--- ---- lists of ids
-other_than : (ids : List ℕ) (id p : ℕ) → elem ids id ≡ true → elem ids p ≡ false → eqb id p ≡ false
+-- ---- lists of ids, and of calls that are taken
+pub other_than : (ids : List ℕ) (id p : ℕ) → elem ids id ≡ true → elem ids p ≡ false → eqb id p ≡ false
 other_than ids id p h k = go (eqb id p) refl
   where
     go : (b : Bool) → eqb id p ≡ b → b ≡ false
     go true e = absurd (true≢false (sym h ∙ ap (elem ids) (eqb-true id p e) ∙ k))
     go false e = refl
 
--- ---- ids ignored in turn
-abbrev pub Accepts : Memory → List Call → Type 0
-Accepts m calls = (none_is is_refused m calls ≡ true) × Quiet m (run m calls)
+first_taken : (m : Memory) (call : Call) (calls : List Call) → none_is is_refused m (call ∷ calls) ≡ true → ((done_by call m).refusal ≡ 0) × (none_is is_refused (done_by call m).memory calls ≡ true)
+first_taken m call calls h = let (a, b) = none_first is_refused m call calls h in (eqb-true (done_by call m).refusal 0 (go (is_taken m call) a), b)
+  where
+    go : (b : Bool) → not b ≡ false → b ≡ true
+    go true h = refl
+    go false h = absurd (true≢false h)
 
-ignoring_accepts : (ids : List ℕ) (m : Memory) → elem ids 0 ≡ false → Accepts m (ignoring ids)
-unfolding elem run none_is
-ignoring_accepts [] m h = (refl, nothing_quiet m)
-ignoring_accepts (id ∷ ids) m h =
-    let (z, zs) = neither (eqb id 0) _ h in
-    let after = (done_by (IgnoreFocus id) m).memory in
-    let (a, q) = ignoring_accepts ids after zs in
-    (rw (taken m (IgnoreFocus id) (ignore_taken m id z)) a, both_quiet m after (run after (ignoring ids)) (ignore_quiet m id) q)
+-- ids that are ignored, and taken, are not 0
+some_id : (ids : List ℕ) (m : Memory) (p : ℕ) → none_is is_refused m (ignoring ids) ≡ true → elem ids p ≡ true → eqb p 0 ≡ false
+unfolding elem
+some_id [] m p h e = absurd (false≢true e)
+some_id (id ∷ ids) m p h e = go (eqb id p) refl e (some_id ids after p (first_taken m (IgnoreFocus id) (ignoring ids) h).1)
+  where
+    after : Memory
+    after = (done_by (IgnoreFocus id) m).memory
 
--- ---- interest calls in turn, let through and with places for all
-module _ (layer : LayerId) (l : layer_refusal layer ≡ 0) where
-  wanting_accepts : (ids : List ℕ) (m : Memory) → elem ids 0 ≡ false → is_allowed m layer ≡ true → held m + length ids ≤ room m → Accepts m (wanting layer ids)
-  unfolding elem run none_is
-  wanting_accepts [] m h allowed places = (refl, nothing_quiet m)
-  wanting_accepts (id ∷ ids) m h allowed places =
-      let (z, zs) = neither (eqb id 0) _ h in
-      let call = Interest id layer in
-      let after = (done_by call m).memory in
-      let place : held m < room m = omega arith in
-      let quiet = want_quiet m id layer z l allowed place in
-      let (a, q) = wanting_accepts ids after zs (quiet_allowed m after layer quiet ∙ allowed) (omega (arith, want_held m id layer z l allowed place, quiet.room)) in
-      (rw (taken m call (want_taken m id layer z l allowed place)) a, both_quiet m after (run after (wanting layer ids)) quiet q)
+    go : (b : Bool) → eqb id p ≡ b → (b || elem ids p) ≡ true → (elem ids p ≡ true → eqb p 0 ≡ false) → eqb p 0 ≡ false
+    go true q e more = rw (← eqb-true id p q) (id_taken m id (first_taken m (IgnoreFocus id) (ignoring ids) h).0)
+    go false q e more = more e
 
 -- ---- p, a field under the box
 module _ (p : ℕ) where
-  abbrev Passed : Memory → Type 0
-  Passed m = is (focus_in m).last_interested p ≡ false
+  ignore_quiet : (m : Memory) (id : ℕ) → disturbs p m (IgnoreFocus id) ≡ false
+  unfolding disturbs lets_in
+  ignore_quiet m id = and-false (is_taken m (IgnoreFocus id))
 
-  -- the first that is accepted replaces the id last interested, and the others do not bring p back
-  more_wanted : (layer : LayerId) (ids : List ℕ) (m : Memory) → elem ids p ≡ false → Passed m → Passed (run m (wanting layer ids))
-  unfolding elem run
+  -- interest calls for other ids do not bring p back
+  more_wanted : (layer : LayerId) (ids : List ℕ) (m : Memory) → elem ids p ≡ false → Passed p (focus_in m) → Passed p (focus_in (run m (wanting layer ids)))
+  unfolding elem run disturbs lets_in
   more_wanted layer [] m h k = k
   more_wanted layer (id ∷ ids) m h k =
       let (n, ns) = neither (eqb id p) _ h in
-      more_wanted layer ids (done_by (Interest id layer) m).memory ns (want_other m p id layer n k)
+      more_wanted layer ids (done_by (Interest id layer) m).memory ns (call_passed p m (Interest id layer) (rw n (and-false (is_taken m (Interest id layer)))) k)
 
-  wanting_passes : (layer : LayerId) → layer_refusal layer ≡ 0 → (ids : List ℕ) (first : ℕ) (m : Memory) → elem ids first ≡ true → elem ids 0 ≡ false → elem ids p ≡ false → is_allowed m layer ≡ true
-      → held m + length ids ≤ room m → Passed (run m (wanting layer ids))
+  -- and the first that is taken makes another id the last interested
+  wanting_passes : (layer : LayerId) (ids : List ℕ) (one : ℕ) (m : Memory) → elem ids one ≡ true → elem ids p ≡ false → is_allowed m layer ≡ true → none_is is_refused m (wanting layer ids) ≡ true
+      → Passed p (focus_in (run m (wanting layer ids)))
   unfolding elem run
-  wanting_passes layer l [] first m some z h allowed places = absurd (false≢true some)
-  wanting_passes layer l (id ∷ ids) first m some z h allowed places =
+  wanting_passes layer [] one m some h allowed taken = absurd (false≢true some)
+  wanting_passes layer (id ∷ ids) one m some h allowed taken =
       let (n, ns) = neither (eqb id p) _ h in
-      let place : held m < room m = omega arith in
-      more_wanted layer ids (done_by (Interest id layer) m).memory ns (ap (λ (o : Option ℕ). is o p) (want_last m id layer (neither (eqb id 0) _ z).0 l allowed place) ∙ n)
+      more_wanted layer ids (done_by (Interest id layer) m).memory ns (ap (λ (o : Option ℕ). is o p) (want_last m id layer (first_taken m (Interest id layer) (wanting layer ids) taken).0 allowed) ∙ n)
 
-  ignoring_passes : (ids : List ℕ) (m : Memory) → Passed m → Passed (run m (ignoring ids))
-  ignoring_passes ids m k = each_keeps IgnoreFocus Passed (λ id m k. ap (λ (o : Option ℕ). is o p) (ignore_last m id) ∙ k) ids m k
-
-  -- p itself is among the ignored
-  ignoring_out : (ids : List ℕ) (m : Memory) → eqb p 0 ≡ false → elem ids p ≡ true → Unfocused p (focus_in (run m (ignoring ids)))
+  -- p is among the ignored
+  ignoring_out : (ids : List ℕ) (m : Memory) → eqb p 0 ≡ false → elem ids p ≡ true → Passed p (focus_in m) → Out p (focus_in (run m (ignoring ids)))
   unfolding elem run
-  ignoring_out [] m z h = absurd (false≢true h)
-  ignoring_out (id ∷ ids) m z h = go (eqb id p) refl h (λ k. ignoring_out ids after z k)
+  ignoring_out [] m z h k = absurd (false≢true h)
+  ignoring_out (id ∷ ids) m z h k = go (eqb id p) refl h (λ e. ignoring_out ids after z e passed)
     where
       after : Memory
       after = (done_by (IgnoreFocus id) m).memory
 
+      passed : Passed p (focus_in after)
+      passed = call_passed p m (IgnoreFocus id) (ignore_quiet m id) k
+
       here : id ≡ p → Unfocused p (focus_in after)
       here e = rw e (ignored p m z)
 
-      go : (b : Bool) → eqb id p ≡ b → (b || elem ids p) ≡ true → (elem ids p ≡ true → Unfocused p (focus_in (run after (ignoring ids)))) → Unfocused p (focus_in (run after (ignoring ids)))
-      go true e h more = each_keeps IgnoreFocus (λ k. Unfocused p (focus_in k)) (λ id k u. ignore_call p k id u) ids after (here (eqb-true id p e))
+      go : (b : Bool) → eqb id p ≡ b → (b || elem ids p) ≡ true → (elem ids p ≡ true → Out p (focus_in (run after (ignoring ids)))) → Out p (focus_in (run after (ignoring ids)))
+      go true e h more = each_keeps IgnoreFocus (λ n. Out p (focus_in n)) (λ id n o. call_out p n (IgnoreFocus id) (ignore_quiet n id) o) ids after (here (eqb-true id p e), passed)
       go false e h more = more h
 
 -- ---- the whole rule
@@ -126,106 +118,91 @@ module _ (m : Memory) (b : Box) (o : Opens m b) where
       ∙ run_append (wanting b.layer b.fields) _ set
       ∙ run_append (ignoring b.under) _ wanted
 
-  free_accepts : Accepts m (ignoring b.freed)
-  free_accepts = ignoring_accepts b.freed m o.ids.2
+  -- none is refused
+  abbrev Taken : Memory → List Call → Type 0
+  Taken k calls = none_is is_refused k calls ≡ true
 
-  set_so_far : Quiet m set
-  set_so_far = both_quiet m freed set free_accepts.1 (set_quiet freed b.layer)
+  all_taken : ((done_by (SetModalLayer b.layer) freed).refusal ≡ 0) × Taken set (wanting b.layer b.fields) × Taken wanted (ignoring b.under) × ((done_by (RequestFocusNextFrame b.focus) gone).refusal ≡ 0)
+  unfolding opening
+  all_taken =
+      let (a, r) = none_split is_refused (ignoring b.freed) _ m o.taken in
+      let (c, s) = first_taken freed (SetModalLayer b.layer) _ r in
+      let (d, t) = none_split is_refused (wanting b.layer b.fields) _ set s in
+      let (e, u) = none_split is_refused (ignoring b.under) _ wanted t in
+      (c, d, e, (first_taken gone (RequestFocusNextFrame b.focus) [] u).0)
+
+  freed_quiet : Quiet m freed
+  freed_quiet = ignoring_quiet b.freed m
 
   set_allowed : is_allowed set b.layer ≡ true
-  set_allowed = quiet_allowed m set b.layer set_so_far ∙ o.let_through
+  set_allowed = quiet_allowed m set b.layer (both_quiet m freed set freed_quiet (set_quiet freed b.layer)) ∙ o.let_through
 
-  set_places : held set + length b.fields ≤ room set
-  set_places = omega (arith, o.places, set_held freed b.layer, set_so_far.room)
-
-  want_accepts : Accepts set (wanting b.layer b.fields)
-  want_accepts = wanting_accepts b.layer o.layer b.fields set o.ids.0 set_allowed set_places
-
-  some_focus : eqb b.focus 0 ≡ false
-  some_focus = other_than b.fields b.focus 0 o.focus o.ids.0
-
-  pub accepts : none_is is_refused m (opening b) ≡ true
-  unfolding opening none_is
-  accepts =
-      none_append is_refused (ignoring b.freed) _ m free_accepts.0 (rw (taken freed (SetModalLayer b.layer) (set_taken freed b.layer o.layer))
-      (none_append is_refused (wanting b.layer b.fields) _ set want_accepts.0
-      (none_append is_refused (ignoring b.under) _ wanted (ignoring_accepts b.under wanted o.ids.1).0 (rw (taken gone (RequestFocusNextFrame b.focus) (next_taken gone b.focus some_focus))))))
+  -- ---- the focus waits for the next begin
+  opened_waits : id_or_nothing (nav_of opened).id_next_frame ≡ Some b.focus
+  opened_waits = ap (λ (f : Focus). f.id_next_frame) (next_after gone b.focus all_taken.3)
 
   -- ---- the box's layer is set
   abbrev Set : Memory → Type 0
   Set k = Flags b.layer.order (in_force b.layer.order m) true (focus_in k)
 
+  plain_set : (k : Memory) (call : Call) → is_plain call ≡ true → Set k → Set (done_by call k).memory
+  plain_set k call h f = plain b.layer.order k (in_force b.layer.order m) true call h f
+
+  first_set : Set set
+  first_set = subst (λ (t : Bool). Flags b.layer.order (in_force b.layer.order m) t (focus_in set)) (rw (all_taken.0, le-leb b.layer.order b.layer.order (omega arith))) (set_after b.layer.order freed b.layer (in_force b.layer.order m) false before)
+    where
+      before : Flags b.layer.order (in_force b.layer.order m) false (focus_in freed)
+      before = (λ e. ap (at_least b.layer.order) freed_quiet.modal ∙ modal_means b.layer.order (nav_of m).top_modal_layer ∙ e, λ e. absurd (false≢true e))
+
   opened_set : Set (run m (opening b))
   unfolding is_plain
-  opened_set = rw opened_is (plain b.layer.order gone (in_force b.layer.order m) true (RequestFocusNextFrame b.focus) refl (ignored (each_keeps (λ id. Interest id b.layer) Set (λ id k f. plain b.layer.order k (in_force b.layer.order m) true (Interest id b.layer) refl f) b.fields set first)))
-    where
-      ignored : Set wanted → Set gone
-      ignored f = each_keeps IgnoreFocus Set (λ id k f. plain b.layer.order k (in_force b.layer.order m) true (IgnoreFocus id) refl f) b.under wanted f
-
-      before : Flags b.layer.order (in_force b.layer.order m) false (focus_in freed)
-      before = (λ e. ap (at_least b.layer.order) free_accepts.1.modal ∙ modal_means b.layer.order (nav_of m).top_modal_layer ∙ e, λ e. absurd (false≢true e))
-
-      first : Set set
-      first = subst (λ (t : Bool). Flags b.layer.order (in_force b.layer.order m) t (focus_in set)) (rw (o.layer, le-leb b.layer.order b.layer.order (omega arith))) (set_after b.layer.order freed b.layer (in_force b.layer.order m) false before)
+  opened_set =
+      let wants = each_keeps (λ id. Interest id b.layer) Set (λ id k f. plain_set k (Interest id b.layer) refl f) b.fields set first_set in
+      let ignores = each_keeps IgnoreFocus Set (λ id k f. plain_set k (IgnoreFocus id) refl f) b.under wanted wants in
+      rw opened_is (plain_set gone (RequestFocusNextFrame b.focus) refl ignores)
 
   -- ---- a field under it
   module _ (p : ℕ) (under : elem b.under p ≡ true) (other : elem b.fields p ≡ false) where
-    pub opened_kept : kept_out (run m (opening b)) p ≡ true
-    opened_kept = rw opened_is (is_kept p opened (subst (KeptOut p) (sym (next_after gone b.focus some_focus)) (u, l, other_than b.fields b.focus p o.focus other)))
-      where
-        u : Unfocused p (focus_in gone)
-        u = ignoring_out p b.under wanted (other_than b.under p 0 under o.ids.1) under
+    opened_kept : kept_out (run m (opening b)) p ≡ true
+    opened_kept =
+        let passed = wanting_passes p b.layer b.fields b.focus set o.focus other set_allowed all_taken.1 in
+        rw opened_is (shut p gone b.focus (other_than b.fields b.focus p o.focus other) all_taken.3 (ignoring_out p b.under wanted (some_id b.under wanted p all_taken.2 under) under passed))
 
-        l : is (focus_in gone).last_interested p ≡ false
-        l = ignoring_passes p b.under wanted (wanting_passes p b.layer o.layer b.fields b.focus set o.focus o.ids.0 other set_allowed set_places)
-
-    pub opened_stays : (calls : List Call) → keeps_under b.layer.order p (in_force b.layer.order m) true calls ≡ true → (n : ℕ) → is_focused (run (run m (opening b)) (take n calls)) p ≡ false
-    opened_stays calls h n =
-        let k = run (run m (opening b)) (take n calls) in
-        not_focused p k (in_words p k (under_kept b.layer.order p calls (run m (opening b)) (in_force b.layer.order m) true opened_kept opened_set h n)).0
+    pub opened_stays : (calls : List Call) → keeps_under b.layer.order p (in_force b.layer.order m) true (run m (opening b)) calls ≡ true → (n : ℕ) → KeptAndUnfocused b.layer.order p (run (run m (opening b)) (take n calls))
+    opened_stays calls h n = under_kept b.layer.order p calls (run m (opening b)) (in_force b.layer.order m) true opened_kept opened_set h n
 
 pub opens : (m : Memory) (b : Box) → Opens m b
-    → (none_is is_refused m (opening b) ≡ true) × ((p : ℕ) → elem b.under p ≡ true → elem b.fields p ≡ false → kept_out (run m (opening b)) p ≡ true)
-opens m b o = (accepts m b o, opened_kept m b o)
+    → ((p : ℕ) → elem b.under p ≡ true → elem b.fields p ≡ false → kept_out (run m (opening b)) p ≡ true) × (id_or_nothing (nav_of (run m (opening b))).id_next_frame ≡ Some b.focus)
+opens m b o = (opened_kept m b o, rw (opened_is m b o) (opened_waits m b o))
 
--- ---- ignored ids free their places
-without_shorter : (l : List Candidate) (id : ℕ) → has_id l id ≡ true → length (without l id) < length l
-unfolding has_id without
-without_shorter [] id h = absurd (false≢true h)
-without_shorter (e ∷ l) id h = go (eqb e.id id) h (without_shorter l id)
-  where
-    go : (t : Bool) → (t || has_id l id) ≡ true → (has_id l id ≡ true → length (without l id) < length l) → length (cond t (without l id) (e ∷ without l id)) < length (e ∷ l)
-    go true h more = omega (arith, without_length l id)
-    go false h more = omega (arith, more h)
+-- ---- the rule for one field, with other calls between its own
+module _ (m : Memory) (p : ℕ) (s : Spread) (o : Spreads m p s) where
+  abbrev asked : Memory
+  asked = (done_by (Interest s.id s.layer) m).memory
 
-without_others : (l : List Candidate) (id x : ℕ) → eqb id x ≡ false → has_id l x ≡ true → has_id (without l id) x ≡ true
-unfolding has_id without
-without_others [] id x n h = h
-without_others (e ∷ l) id x n h = go (eqb e.id id) (eqb e.id x) refl refl h (without_others l id x n)
-  where
-    go : (t u : Bool) → eqb e.id id ≡ t → eqb e.id x ≡ u → (u || has_id l x) ≡ true → (has_id l x ≡ true → has_id (without l id) x ≡ true) → has_id (cond t (without l id) (e ∷ without l id)) x ≡ true
-    go true true p q h more = absurd (false≢true (sym n ∙ sym (ap (λ (y : ℕ). eqb y x) (eqb-true e.id id p)) ∙ q))
-    go true false p q h more = more h
-    go false true p q h more = rw q
-    go false false p q h more = rw q (more h)
+  abbrev between : Memory
+  between = run asked s.between
 
-still_cached : (ids : List ℕ) (m : Memory) (id : ℕ) → eqb id 0 ≡ false → elem ids id ≡ false → all_cached m ids ≡ true → all_cached (done_by (IgnoreFocus id) m).memory ids ≡ true
-unfolding elem all_cached
-still_cached [] m id z n h = refl
-still_cached (x ∷ ids) m id z n h =
-    let (a, b) = both (is_cached m x) _ h in
-    let (c, d) = neither (eqb x id) _ n in
-    let here : is_cached (done_by (IgnoreFocus id) m).memory x ≡ true = rw (ignore_cache m id z) (without_others (focus_in m).focus_widgets_cache id x (ne_eqb id x (λ e. eqb-false x id c (sym e))) a) in
-    rw here (still_cached ids m id z d b)
+  abbrev dropped : Memory
+  dropped = (done_by (IgnoreFocus p) between).memory
 
-freed_places : (ids : List ℕ) (m : Memory) → repeated ids ≡ false → elem ids 0 ≡ false → all_cached m ids ≡ true → held (run m (ignoring ids)) + length ids ≤ held m
-unfolding elem repeated all_cached run
-freed_places [] m r z h = omega arith
-freed_places (id ∷ ids) m r z h =
-    let (n, rs) = neither (elem ids id) _ r in
-    let (y, ys) = neither (eqb id 0) _ z in
-    let (c, cs) = both (is_cached m id) _ h in
-    omega (arith, freed_places ids (done_by (IgnoreFocus id) m).memory rs ys (still_cached ids m id y n cs), ap (λ (l : List Candidate). length l) (ignore_cache m id y), without_shorter (focus_in m).focus_widgets_cache id c)
+  abbrev after : Memory
+  after = run dropped s.after
 
-pub frees_places : (m : Memory) (ids : List ℕ) → repeated ids ≡ false → elem ids 0 ≡ false → all_cached m ids ≡ true → held (run m (ignoring ids)) + length ids ≤ room m
-frees_places m ids r z h = let f = focus_of m in omega (arith, freed_places ids m r z h, held_length f.count f.ids f.rects)
+  spread_is : run m (spread p s) ≡ (done_by (RequestFocusNextFrame s.focus) after).memory
+  unfolding spread run
+  spread_is = run_append s.between _ asked ∙ run_append s.after _ dropped
+
+  pub spread_kept : kept_out (run m (spread p s)) p ≡ true
+  unfolding spread disturbs lets_in
+  spread_kept =
+      let (i, r) = none_first (disturbs p) m (Interest s.id s.layer) _ o.quiet in
+      let (a, t) = none_split (disturbs p) s.between _ asked r in
+      let (d, u) = none_first (disturbs p) between (IgnoreFocus p) _ t in
+      let (c, v) = none_split (disturbs p) s.after _ dropped u in
+      let (e, w) = none_first (disturbs p) after (RequestFocusNextFrame s.focus) [] v in
+      let taken = next_taken after s.focus o.ids.1 in
+      let first : Passed p (focus_in asked) = ap (λ (x : Option ℕ). is x p) (want_last m s.id s.layer (eqb-true _ 0 o.taken) o.let_through) ∙ another p s.id (is_allowed m s.layer) o.let_through (rw o.taken at i) in
+      let passed = at_end (λ k. Passed p (focus_in k)) (disturbs p) (call_passed p) s.between asked first a in
+      let out = at_end (λ k. Out p (focus_in k)) (disturbs p) (call_out p) s.after dropped (ignored p between o.ids.0, call_passed p between (IgnoreFocus p) d passed) c in
+      rw spread_is (shut p after s.focus (rw taken at e) taken out)

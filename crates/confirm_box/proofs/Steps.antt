@@ -1,10 +1,9 @@
 -- The calls of the rule, one by one, and lists of them: none is refused, and what each leaves of the focus and of what decides who is let through. Assumes nothing.
-use Rattle.std.specs.Prelude.{ℕ, zero, suc, Bool, true, false, cond, not, ◌&&◌, ◌||◌, ◌≡◌, ◌≤◌, ◌<◌, Option, None, Some, List, [], ◌∷◌, ◌++◌, map, eqb, length}
+use Rattle.std.specs.Prelude.{ℕ, zero, suc, Bool, true, false, cond, not, ◌&&◌, ◌||◌, ◌≡◌, ◌≤◌, Option, None, Some, List, [], ◌∷◌, ◌++◌, map, eqb, length}
 use mathlib.Core.Path.{refl, sym, ap, ◌∙◌, subst}
 use mathlib.Core.Bool.{and-true}
-use native.Mathlib.Omega.{arith}
-use borrow.Author.Tests.{le-ltb}
-use Rattle.refusal.specs.Refusal.{lowest, kept}
+use borrow.Author.Tests.{not-true, le-ltb}
+use Rattle.refusal.specs.Refusal.{lowest, kept, none}
 use Rattle.layers.specs.declared.LayerId.{LayerId}
 use Rattle.layers.specs.Layers.{layer_refusal}
 use Rattle.layer_rows.specs.Rows.{held_rows}
@@ -14,16 +13,17 @@ use Rattle.areas.specs.declared.Areas.{Areas}
 use Rattle.focus_cache.specs.Cache.{enlisted, without}
 use Rattle.focus_pass.specs.Pass.{ignore_of}
 use Rattle.focus.specs.Focus as ByValue
-use Rattle.focus_maps.specs.Egui.{Focus, is, with_last, with_cache, interested_in_focus, ignore_focus, request_focus_next_frame, set_modal_layer}
+use Rattle.focus_maps.specs.Egui.{Focus, with_last, with_cache, interested_in_focus, ignore_focus, request_focus_next_frame, set_modal_layer}
 use Rattle.focus_maps.specs.Calls as Focus
+use Rattle.focus_maps.proofs.Means.{id_taken as some_id}
 use Rattle.focus_maps.proofs.Holds.{refused}
 use Rattle.memory_rules.specs.declared.Memory.{Memory}
 use Rattle.memory_rules.specs.State.{areas_of, focus_of, nav_of, with_focus}
 use Rattle.memory_rules.specs.Memory.{is_above, is_allowed, stays_modal, interested_of, ignored_of, requested_next, modal_set}
 use Rattle.memory_rules.specs.Calls.{Call, Interest, IgnoreFocus, RequestFocusNextFrame, SetModalLayer, done_by}
 use Rattle.confirm_box.specs.KeptOut.{run, none_is}
-use Rattle.confirm_box.specs.Rule.{held, room, is_refused}
-use Rattle.confirm_box.proofs.Egui.{both, enlisted_length}
+use Rattle.confirm_box.specs.Rule.{ignoring, cached_in, room, is_refused}
+use Rattle.confirm_box.proofs.Egui.{both}
 use Rattle.confirm_box.proofs.Methods.{Moves, ruled_keeps, letgo_keeps}
 use Rattle.confirm_box.proofs.Calls.{focus_in, focus_after, leaves}
 
@@ -33,10 +33,19 @@ unfolding run
 run_append [] ys m = refl
 run_append (x ∷ xs) ys m = run_append xs ys (done_by x m).memory
 
+pub none_first : (such : Memory → Call → Bool) (m : Memory) (call : Call) (calls : List Call) → none_is such m (call ∷ calls) ≡ true → (such m call ≡ false) × (none_is such (done_by call m).memory calls ≡ true)
+unfolding none_is
+none_first such m call calls h = let (a, b) = both (not (such m call)) (none_is such (done_by call m).memory calls) h in (not-true (such m call) a, b)
+
 pub none_append : (such : Memory → Call → Bool) (xs ys : List Call) (m : Memory) → none_is such m xs ≡ true → none_is such (run m xs) ys ≡ true → none_is such m (xs ++ ys) ≡ true
 unfolding run none_is
 none_append such [] ys m h k = k
 none_append such (x ∷ xs) ys m h k = let (a, b) = both (not (such m x)) _ h in rw a (none_append such xs ys (done_by x m).memory b k)
+
+pub none_split : (such : Memory → Call → Bool) (xs ys : List Call) (m : Memory) → none_is such m (xs ++ ys) ≡ true → (none_is such m xs ≡ true) × (none_is such (run m xs) ys ≡ true)
+unfolding run none_is
+none_split such [] ys m h = (refl, h)
+none_split such (x ∷ xs) ys m h = let (a, b) = both (not (such m x)) _ h in let (c, d) = none_split such xs ys (done_by x m).memory b in (rw (a, c), d)
 
 -- what each call of a list about ids keeps, the list keeps
 pub each_keeps : (call : ℕ → Call) (I : Memory → Type 0) → ((id : ℕ) (m : Memory) → I m → I (done_by (call id) m).memory) → (ids : List ℕ) (m : Memory) → I m → I (run m (map call ids))
@@ -129,11 +138,11 @@ module _ (m : Memory) where
     unfolding done_by modal_set
     set_taken h = h
 
-    pub set_held : held (done_by (SetModalLayer layer) m).memory ≡ held m
+    pub set_cache : cached_in (done_by (SetModalLayer layer) m).memory ≡ cached_in m
     unfolding focus_after
-    set_held = stays (SetModalLayer layer) (λ f. length f.focus_widgets_cache) (go (stays_modal m layer))
+    set_cache = stays (SetModalLayer layer) (λ f. f.focus_widgets_cache) (go (stays_modal m layer))
       where
-        go : (b : Bool) → length (cond b (focus_in m) (set_modal_layer (focus_in m) layer)).focus_widgets_cache ≡ held m
+        go : (b : Bool) → (cond b (focus_in m) (set_modal_layer (focus_in m) layer)).focus_widgets_cache ≡ cached_in m
         go true = refl
         go false = refl
 
@@ -162,11 +171,7 @@ module _ (m : Memory) where
     unfolding done_by ignored_of focus_after
     ignore_quiet = quiet (IgnoreFocus id) (areas_kept _ _ refl) (ignore_rest (focus_in m) id).2
 
-    pub ignore_last : (focus_in (done_by (IgnoreFocus id) m).memory).last_interested ≡ (focus_in m).last_interested
-    unfolding focus_after
-    ignore_last = stays (IgnoreFocus id) (λ f. f.last_interested) (ignore_rest (focus_in m) id).1
-
-    pub ignore_cache : eqb id 0 ≡ false → (focus_in (done_by (IgnoreFocus id) m).memory).focus_widgets_cache ≡ without (focus_in m).focus_widgets_cache id
+    pub ignore_cache : eqb id 0 ≡ false → cached_in (done_by (IgnoreFocus id) m).memory ≡ without (cached_in m) id
     unfolding focus_after
     ignore_cache h = ap (λ (f : Focus). f.focus_widgets_cache) (took (IgnoreFocus id) (ignore_taken h)) ∙ (ignore_rest (focus_in m) id).0
 
@@ -174,45 +179,58 @@ module _ (m : Memory) where
     unfolding done_by requested_next ByValue.requested_next
     next_taken h = id_none h
 
-    pub next_after : eqb id 0 ≡ false → focus_in (done_by (RequestFocusNextFrame id) m).memory ≡ request_focus_next_frame (focus_in m) id
+    pub next_after : (done_by (RequestFocusNextFrame id) m).refusal ≡ 0 → focus_in (done_by (RequestFocusNextFrame id) m).memory ≡ request_focus_next_frame (focus_in m) id
     unfolding focus_after
-    next_after h = took (RequestFocusNextFrame id) (next_taken h)
+    next_after h = took (RequestFocusNextFrame id) h
 
-  -- ---- any interest call for another id than p
-  pub want_other : (p id : ℕ) (layer : LayerId) → eqb id p ≡ false → is (focus_in m).last_interested p ≡ false → is (focus_in (done_by (Interest id layer) m).memory).last_interested p ≡ false
-  unfolding focus_after
-  want_other p id layer n h = stays (Interest id layer) (λ f. is f.last_interested p) (go (is_allowed m layer)) ∙ h
-    where
-      go : (b : Bool) → is (cond b (interested_in_focus (focus_in m) id) (focus_in m)).last_interested p ≡ is (focus_in m).last_interested p
-      go true = ap (λ (o : Option ℕ). is o p) (interest_rest (focus_in m) id).1 ∙ n ∙ sym h
-      go false = refl
+  -- ---- an interest call
+  module _ (id : ℕ) (layer : LayerId) where
+    abbrev wanted : Bool → Focus
+    wanted b = cond b (interested_in_focus (focus_in m) id) (focus_in m)
 
-  -- ---- an interest call that is let through, where there is a place for one more
-  module _ (id : ℕ) (layer : LayerId) (h : eqb id 0 ≡ false) (l : layer_refusal layer ≡ 0) (allowed : is_allowed m layer ≡ true) (place : held m < room m) where
-    more : length (enlisted (focus_in m).focus_widgets_cache id) ≤ suc (held m)
-    more = enlisted_length (focus_in m).focus_widgets_cache id
-
-    pub want_taken : (done_by (Interest id layer) m).refusal ≡ 0
+    -- taken where there is a place for its id
+    pub want_taken : eqb id 0 ≡ false → layer_refusal layer ≡ 0 → length (enlisted (cached_in m) id) ≤ room m → (done_by (Interest id layer) m).refusal ≡ 0
     unfolding done_by interested_of lowest
-    want_taken = rw (h, l, allowed) (refused (focus_of m) (Focus.Interest id) ∙ rw (h, le-ltb (room m) (length (enlisted (focus_in m).focus_widgets_cache id)) (omega (arith, more, place))))
+    want_taken h l place = rw (h, l) (go (is_allowed m layer))
+      where
+        go : (b : Bool) → ◌≡◌ {A = ℕ} (cond b (ByValue.interested_of (focus_of m) id).refusal none) 0
+        go true = refused (focus_of m) (Focus.Interest id) ∙ rw (h, le-ltb (room m) (length (enlisted (cached_in m) id)) place)
+        go false = refl
 
     pub want_quiet : Quiet m (done_by (Interest id layer) m).memory
     unfolding done_by interested_of focus_after
-    want_quiet = quiet (Interest id layer) (areas_kept _ _ (go (is_allowed m layer))) (rw allowed (interest_rest (focus_in m) id).2)
+    want_quiet = quiet (Interest id layer) (areas_kept _ _ (go (is_allowed m layer))) (modal (is_allowed m layer))
       where
         go : (b : Bool) → areas_of (cond b (with_focus m (ByValue.interested_of (focus_of m) id).focus) m) ≡ areas_of m
         go true = refl
         go false = refl
 
-    abbrev enlisting : Focus
-    enlisting = with_last (with_cache (focus_in m) (enlisted (focus_in m).focus_widgets_cache id)) id
+        modal : (b : Bool) → (wanted b).top_modal_layer ≡ (focus_in m).top_modal_layer
+        modal true = (interest_rest (focus_in m) id).2
+        modal false = refl
 
-    want_rest : Rest enlisting (focus_in (done_by (Interest id layer) m).memory)
-    unfolding focus_after
-    want_rest = subst (Rest enlisting) (sym (took (Interest id layer) want_taken)) (rw allowed (interest_rest (focus_in m) id))
+    module _ (t : (done_by (Interest id layer) m).refusal ≡ 0) where
+      want_after : focus_in (done_by (Interest id layer) m).memory ≡ wanted (is_allowed m layer)
+      unfolding focus_after
+      want_after = took (Interest id layer) t
 
-    pub want_last : (focus_in (done_by (Interest id layer) m).memory).last_interested ≡ Some id
-    want_last = want_rest.1
+      pub want_last : is_allowed m layer ≡ true → (focus_in (done_by (Interest id layer) m).memory).last_interested ≡ Some id
+      want_last allowed = ap (λ (f : Focus). f.last_interested) want_after ∙ rw allowed (interest_rest (focus_in m) id).1
 
-    pub want_held : held (done_by (Interest id layer) m).memory ≤ suc (held m)
-    want_held = omega (arith, ap (λ (c : List Candidate). length c) want_rest.0, more)
+      -- its id has a place, or the call was turned away
+      pub want_cache : (P : List Candidate → Type 0) → P (enlisted (cached_in m) id) → P (cached_in m) → P (cached_in (done_by (Interest id layer) m).memory)
+      want_cache P p q = subst (λ (f : Focus). P f.focus_widgets_cache) (sym want_after) (go (is_allowed m layer))
+        where
+          go : (b : Bool) → P (wanted b).focus_widgets_cache
+          go true = rw (interest_rest (focus_in m) id).0 p
+          go false = q
+
+-- an ignore that is taken is of an id
+pub id_taken : (m : Memory) (id : ℕ) → (done_by (IgnoreFocus id) m).refusal ≡ 0 → eqb id 0 ≡ false
+unfolding done_by ignored_of ByValue.ignored_of ignore_of
+id_taken m id h = some_id id h
+
+pub ignoring_quiet : (ids : List ℕ) (m : Memory) → Quiet m (run m (ignoring ids))
+unfolding run
+ignoring_quiet [] m = nothing_quiet m
+ignoring_quiet (id ∷ ids) m = let after = (done_by (IgnoreFocus id) m).memory in both_quiet m after (run after (ignoring ids)) (ignore_quiet m id) (ignoring_quiet ids after)

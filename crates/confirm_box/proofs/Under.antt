@@ -1,7 +1,7 @@
 -- While its modal layer is set in every pass, a box keeps a modal layer of its Order or a higher one in force, and so turns interest calls of lower layers away. Assumes nothing.
 use Rattle.std.specs.Prelude.{ℕ, zero, suc, Bool, true, false, cond, not, ◌&&◌, ◌||◌, ◌≡◌, Option, None, Some, List, [], ◌∷◌, take, eqb, ltb, leb}
 use mathlib.Core.Path.{refl, sym, ◌∙◌, subst}
-use mathlib.Core.Bool.{false≢true, or-false}
+use mathlib.Core.Bool.{false≢true, or-false, and-false}
 use native.Mathlib.Omega.{arith}
 use borrow.Author.Tests.{not-true, ne_eqb}
 use Rattle.std.proofs.lemmas.Bool.{leb-true, le-leb, ltb-true}
@@ -20,12 +20,12 @@ use Rattle.memory_rules.specs.declared.Memory.{Memory}
 use Rattle.memory_rules.specs.State.{nav_of}
 use Rattle.memory_rules.specs.Memory.{is_allowed, stays_modal, is_below, ended_of, modal_set}
 use Rattle.memory_rules.specs.Calls.{Call, Begin, Interest, End, SetFocusLockFilter, RequestFocus, RequestFocusNextFrame, SurrenderFocus, IgnoreFocus, MoveFocus, SetModalLayer, StopTextInput, ResetAreas, InterruptIme, OpenPopupAt, KeepPopupOpen, ClosePopup, TogglePopup, CloseAllPopups, SetEverythingIsVisible, SetState, MoveToTop, SetSublayer, done_by}
-use Rattle.confirm_box.specs.KeptOut.{kept_out, lets_in, run}
-use Rattle.confirm_box.specs.Modal.{is_modal_of, in_force, is_set, keeps_under}
+use Rattle.confirm_box.specs.KeptOut.{is_focused, is_taken, kept_out, lets_in, run}
+use Rattle.confirm_box.specs.Modal.{is_modal_of, in_force, is_set, last_after, now_after, is_lower, keeps_under}
 use Rattle.confirm_box.proofs.Egui.{both}
 use Rattle.confirm_box.proofs.Methods.{Moves, all_heard, ended, ruled_keeps, letgo_keeps}
 use Rattle.confirm_box.proofs.Calls.{focus_in, focus_after, leaves, Methods, keeps}
-use Rattle.confirm_box.proofs.Kept.{call_kept}
+use Rattle.confirm_box.proofs.Kept.{call_kept, kept_unfocused}
 use Rattle.confirm_box.proofs.Modal.{under_away, lower_below, below_lower, not_below_lower}
 
 suc_some : (r : ℕ) → eqb (suc r) 0 ≡ false
@@ -122,9 +122,9 @@ module _ (order : ℕ) (m : Memory) (layer : LayerId) (last now : Bool) (k : Fla
   set_flags zero = set_accepted (stays_modal m layer) refl
   set_flags (suc r) = rw (suc_some r, or-false now) k
 
-  pub set_after : Flags order last (now || (eqb (layer_refusal layer) 0 && leb order layer.order)) (focus_in (done_by (SetModalLayer layer) m).memory)
+  pub set_after : Flags order last (now || (is_taken m (SetModalLayer layer) && leb order layer.order)) (focus_in (done_by (SetModalLayer layer) m).memory)
   unfolding done_by modal_set focus_after
-  set_after = subst (Flags order last (now || (eqb (layer_refusal layer) 0 && leb order layer.order))) (sym (leaves m (SetModalLayer layer)).1) (set_flags (layer_refusal layer))
+  set_after = subst (Flags order last (now || (is_taken m (SetModalLayer layer) && leb order layer.order))) (sym (leaves m (SetModalLayer layer)).1) (set_flags (layer_refusal layer))
 
 -- ---- the calls but for end and set_modal_layer
 unfoldable pub is_plain : Call → Bool
@@ -149,80 +149,79 @@ module _ (order : ℕ) (m : Memory) (last now : Bool) where
   plain call ok k = keeps m (Flags order last now) _ (flag_moves order last now) flag_methods call ok k
 
 module _ (order p : ℕ) where
-  -- ---- what is left to show of a call and the calls after it
-  module _ (m : Memory) (last now : Bool) (calls : List Call) (A : Type 0) where
+  -- ---- a call: it lets nobody in, and leaves what the flags after it say
+  module _ (m : Memory) (last now : Bool) (k : Flags order last now (focus_in m)) where
     abbrev Goes : Call → Type 0
-    Goes call = keeps_under order p last now (call ∷ calls) ≡ true → Flags order last now (focus_in m)
-        → ((l n : Bool) → lets_in p m call ≡ false → Flags order l n (focus_in (done_by call m).memory) → keeps_under order p l n calls ≡ true → A) → A
+    Goes call = (is_lower order last call || not (lets_in p m call)) ≡ true → (lets_in p m call ≡ false) × Flags order (last_after m last now call) (now_after order m now call) (focus_in (done_by call m).memory)
 
+    abbrev Left : Call → Type 0
+    Left call = (lets_in p m call ≡ false) × Flags order last now (focus_in (done_by call m).memory)
+
+    on : (call : Call) → is_plain call ≡ true → not (lets_in p m call) ≡ true → Left call
+    on call ok h = (not-true (lets_in p m call) h, plain order m last now call ok k)
+
+    -- one of a lower Order is turned away
     want_goes : (id : ℕ) (layer : LayerId) → Goes (Interest id layer)
-    unfolding keeps_under lets_in is_plain
-    want_goes id layer h k next =
-        let (a, b) = both _ _ h in
-        next last now (away (eqb id p) a) (plain order m last now (Interest id layer) refl k) b
+    unfolding lets_in is_plain
+    want_goes id layer h = go (last && ltb layer.order order) refl h
       where
-        in_force_now : last ≡ true → in_force order m ≡ true
-        in_force_now e = sym (modal_means order (nav_of m).top_modal_layer) ∙ k.0 e
+        plainly : Flags order last now (focus_in (done_by (Interest id layer) m).memory)
+        plainly = plain order m last now (Interest id layer) refl k
 
-        away : (b : Bool) → (not b || (last && ltb layer.order order)) ≡ true → (b && is_allowed m layer) ≡ false
-        away false e = refl
-        away true e = let (l, o) = both last (ltb layer.order order) e in lower_away order m layer (in_force_now l) o
+        lower : (last && ltb layer.order order) ≡ true → is_allowed m layer ≡ false
+        lower e = let (l, o) = both _ _ e in lower_away order m layer (sym (modal_means order (nav_of m).top_modal_layer) ∙ k.0 l) o
 
-    ask_goes : (id : ℕ) → Goes (RequestFocus id)
-    unfolding keeps_under lets_in is_plain
-    ask_goes id h k next = let (a, b) = both _ _ h in next last now (not-true (eqb id p) a) (plain order m last now (RequestFocus id) refl k) b
-
-    ask_next_goes : (id : ℕ) → Goes (RequestFocusNextFrame id)
-    unfolding keeps_under lets_in is_plain
-    ask_next_goes id h k next = let (a, b) = both _ _ h in next last now (not-true (eqb id p) a) (plain order m last now (RequestFocusNextFrame id) refl k) b
+        go : (b : Bool) → (last && ltb layer.order order) ≡ b → (b || not (lets_in p m (Interest id layer))) ≡ true → Left (Interest id layer)
+        go true e h = (rw (lower e, and-false (eqb id p)) (and-false (is_taken m (Interest id layer))), plainly)
+        go false e h = (not-true (lets_in p m (Interest id layer)) h, plainly)
 
     -- an end that is refused ends no pass
-    end_goes : (used : List Candidate) → Goes (End used)
-    unfolding keeps_under lets_in done_by ended_of end_of focus_after
-    end_goes used h k next = go (used_refusal usedLimit used) h (leaves m (End used)).1
+    end_flags_after : (used : List Candidate) → Flags order (cond (is_taken m (End used)) now last) (cond (is_taken m (End used)) false now) (focus_in (done_by (End used) m).memory)
+    unfolding done_by ended_of end_of focus_after
+    end_flags_after used = subst (Flags order (cond (is_taken m (End used)) now last) (cond (is_taken m (End used)) false now)) (sym (leaves m (End used)).1) (go (used_refusal usedLimit used))
       where
-        go : (r : ℕ) → cond (eqb r 0) (keeps_under order p now false calls) (keeps_under order p last now calls) ≡ true → focus_in (done_by (End used) m).memory ≡ kept r (focus_in m) (end_pass (focus_in m) used) → A
-        go zero h e = next now false refl (subst (Flags order now false) (sym e) (end_flags order last now used (focus_in m) k)) h
-        go (suc r) h e = next last now refl (subst (Flags order last now) (sym e) k) (rw (suc_some r) at h)
+        go : (r : ℕ) → Flags order (cond (eqb r 0) now last) (cond (eqb r 0) false now) (kept r (focus_in m) (end_pass (focus_in m) used))
+        go zero = end_flags order last now used (focus_in m) k
+        go (suc r) = rw (suc_some r) k
 
-    set_goes : (layer : LayerId) → Goes (SetModalLayer layer)
-    unfolding keeps_under lets_in
-    set_goes layer h k next = next last _ refl (set_after order m layer last now k) h
-
-    -- ---- every call
-    pub goes_on : (call : Call) → Goes call
-    unfolding keeps_under lets_in is_plain
-    goes_on (Begin events) h k next = next last now refl (plain order m last now (Begin events) refl k) h
-    goes_on (Interest id layer) h k next = want_goes id layer h k next
-    goes_on (End used) h k next = end_goes used h k next
-    goes_on (SetFocusLockFilter id filter) h k next = next last now refl (plain order m last now (SetFocusLockFilter id filter) refl k) h
-    goes_on (RequestFocus id) h k next = ask_goes id h k next
-    goes_on (RequestFocusNextFrame id) h k next = ask_next_goes id h k next
-    goes_on (SurrenderFocus id) h k next = next last now refl (plain order m last now (SurrenderFocus id) refl k) h
-    goes_on (IgnoreFocus id) h k next = next last now refl (plain order m last now (IgnoreFocus id) refl k) h
-    goes_on (MoveFocus direction) h k next = next last now refl (plain order m last now (MoveFocus direction) refl k) h
-    goes_on (SetModalLayer layer) h k next = set_goes layer h k next
-    goes_on StopTextInput h k next = next last now refl (plain order m last now StopTextInput refl k) h
-    goes_on ResetAreas h k next = next last now refl (plain order m last now ResetAreas refl k) h
-    goes_on InterruptIme h k next = next last now refl (plain order m last now InterruptIme refl k) h
-    goes_on (OpenPopupAt id pos) h k next = next last now refl (plain order m last now (OpenPopupAt id pos) refl k) h
-    goes_on (KeepPopupOpen id) h k next = next last now refl (plain order m last now (KeepPopupOpen id) refl k) h
-    goes_on (ClosePopup id) h k next = next last now refl (plain order m last now (ClosePopup id) refl k) h
-    goes_on (TogglePopup id) h k next = next last now refl (plain order m last now (TogglePopup id) refl k) h
-    goes_on CloseAllPopups h k next = next last now refl (plain order m last now CloseAllPopups refl k) h
-    goes_on (SetEverythingIsVisible all) h k next = next last now refl (plain order m last now (SetEverythingIsVisible all) refl k) h
-    goes_on (SetState layer s) h k next = next last now refl (plain order m last now (SetState layer s) refl k) h
-    goes_on (MoveToTop layer) h k next = next last now refl (plain order m last now (MoveToTop layer) refl k) h
-    goes_on (SetSublayer parent child) h k next = next last now refl (plain order m last now (SetSublayer parent child) refl k) h
+    goes_on : (call : Call) → Goes call
+    unfolding is_plain
+    goes_on (Begin events) h = on (Begin events) refl h
+    goes_on (Interest id layer) h = want_goes id layer h
+    goes_on (End used) h = (not-true (lets_in p m (End used)) h, end_flags_after used)
+    goes_on (SetFocusLockFilter id filter) h = on (SetFocusLockFilter id filter) refl h
+    goes_on (RequestFocus id) h = on (RequestFocus id) refl h
+    goes_on (RequestFocusNextFrame id) h = on (RequestFocusNextFrame id) refl h
+    goes_on (SurrenderFocus id) h = on (SurrenderFocus id) refl h
+    goes_on (IgnoreFocus id) h = on (IgnoreFocus id) refl h
+    goes_on (MoveFocus direction) h = on (MoveFocus direction) refl h
+    goes_on (SetModalLayer layer) h = (not-true (lets_in p m (SetModalLayer layer)) h, set_after order m layer last now k)
+    goes_on StopTextInput h = on StopTextInput refl h
+    goes_on ResetAreas h = on ResetAreas refl h
+    goes_on InterruptIme h = on InterruptIme refl h
+    goes_on (OpenPopupAt id pos) h = on (OpenPopupAt id pos) refl h
+    goes_on (KeepPopupOpen id) h = on (KeepPopupOpen id) refl h
+    goes_on (ClosePopup id) h = on (ClosePopup id) refl h
+    goes_on (TogglePopup id) h = on (TogglePopup id) refl h
+    goes_on CloseAllPopups h = on CloseAllPopups refl h
+    goes_on (SetEverythingIsVisible all) h = on (SetEverythingIsVisible all) refl h
+    goes_on (SetState layer s) h = on (SetState layer s) refl h
+    goes_on (MoveToTop layer) h = on (MoveToTop layer) refl h
+    goes_on (SetSublayer parent child) h = on (SetSublayer parent child) refl h
 
   -- ---- lists of calls
-  pub under_kept : (calls : List Call) (m : Memory) (last now : Bool) → kept_out m p ≡ true → Flags order last now (focus_in m) → keeps_under order p last now calls ≡ true
-      → (n : ℕ) → kept_out (run m (take n calls)) p ≡ true
-  unfolding run
-  under_kept calls m last now k f h zero = k
-  under_kept [] m last now k f h (suc n) = k
-  under_kept (call ∷ calls) m last now k f h (suc n) =
-      goes_on m last now calls (kept_out (run (done_by call m).memory (take n calls)) p ≡ true) call h f (λ l t ok g r. under_kept calls (done_by call m).memory l t (call_kept p m call k ok) g r n)
+  abbrev pub Out : Memory → Type 0
+  Out m = (kept_out m p ≡ true) × (is_focused m p ≡ false)
 
-  pub box_kept : (m : Memory) (calls : List Call) → kept_out m p ≡ true → keeps_under order p (in_force order m) (is_set order m) calls ≡ true → (n : ℕ) → kept_out (run m (take n calls)) p ≡ true
+  pub under_kept : (calls : List Call) (m : Memory) (last now : Bool) → kept_out m p ≡ true → Flags order last now (focus_in m) → keeps_under order p last now m calls ≡ true
+      → (n : ℕ) → Out (run m (take n calls))
+  unfolding run keeps_under
+  under_kept calls m last now k f h zero = (k, kept_unfocused p m k)
+  under_kept [] m last now k f h (suc n) = (k, kept_unfocused p m k)
+  under_kept (call ∷ calls) m last now k f h (suc n) =
+      let (a, b) = both _ _ h in
+      let (ok, g) = goes_on m last now f call a in
+      under_kept calls (done_by call m).memory (last_after m last now call) (now_after order m now call) (call_kept p m call k ok) g b n
+
+  pub box_kept : (m : Memory) (calls : List Call) → kept_out m p ≡ true → keeps_under order p (in_force order m) (is_set order m) m calls ≡ true → (n : ℕ) → Out (run m (take n calls))
   box_kept m calls k h = under_kept calls m (in_force order m) (is_set order m) k (λ e. modal_means order (nav_of m).top_modal_layer ∙ e, λ e. modal_means order (nav_of m).top_modal_layer_current_frame ∙ e) h

@@ -10,9 +10,9 @@ use Rattle.layers.specs.declared.LayerId.{LayerId}
 use Rattle.search.specs.declared.Candidate.{Candidate}
 use Rattle.memory_rules.specs.declared.Memory.{Memory}
 use Rattle.memory_rules.specs.State.{new_memory}
-use Rattle.memory_rules.specs.Calls.{Call, Begin, End, RequestFocus, RequestFocusNextFrame, MoveFocus, SetModalLayer}
+use Rattle.memory_rules.specs.Calls.{Call, Begin, End, RequestFocus, RequestFocusNextFrame, MoveFocus, SetModalLayer, MoveToTop}
 use Rattle.confirm_box.specs.KeptOut.{run}
-use Rattle.confirm_box.specs.Rule.{Box, wanting}
+use Rattle.confirm_box.specs.Rule.{Box, Spread, wanting}
 
 -- ---- the page with fields 11 and 12, and the box with 21 and 22
 abbrev pub page : LayerId
@@ -27,6 +27,10 @@ box = record { layer = record { order = 2; id = 9 }; fields = 21 ∷ 22 ∷ []; 
 -- the pass so far: the page's interest calls, one of its fields focused, the other waiting for the next begin, and the focus to go to the field before
 unfoldable pub start : Memory
 start = run new_memory (wanting page under ++ (RequestFocus 11 ∷ RequestFocusNextFrame 12 ∷ MoveFocus previous ∷ []))
+
+-- field 11 kept out by the same calls with others between them
+abbrev pub spread : Spread
+spread = record { id = 21; layer = box.layer; between = SetModalLayer box.layer ∷ wanting box.layer (22 ∷ []); after = MoveToTop box.layer ∷ []; focus = 22 }
 
 -- ---- all four are used, at one place
 abbrev pub origin : Pos2

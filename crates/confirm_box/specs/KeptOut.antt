@@ -29,19 +29,29 @@ module _ (m : Memory) (p : ℕ) where
   unfoldable pub kept_out : Bool
   kept_out = not is_focused && (not waits && (not was_last && not is_cached))
 
--- ---- the calls that can let p in: an interest call for it that is let through, and a request of it
-unfoldable pub lets_in : ℕ → Memory → Call → Bool
-lets_in p m (Interest id layer) = eqb id p && is_allowed m layer
-lets_in p m (RequestFocus id) = eqb id p
-lets_in p m (RequestFocusNextFrame id) = eqb id p
-lets_in p m call = false
+-- ---- a call that is taken
+abbrev pub is_taken : Memory → Call → Bool
+is_taken m call = eqb (done_by call m).refusal 0
 
--- ---- the calls after which p may be focused though it is not cached and was not focused: a begin, any interest call that is let through, and a request of it
+-- the three calls that let p in, where they are taken: an interest call for it that is let through, and a request of it, for now or for the next begin
+abbrev pub names : ℕ → Memory → Call → Bool
+names p m (Interest id layer) = eqb id p && is_allowed m layer
+names p m (RequestFocus id) = eqb id p
+names p m (RequestFocusNextFrame id) = eqb id p
+names p m call = false
+
+unfoldable pub lets_in : ℕ → Memory → Call → Bool
+lets_in p m call = is_taken m call && names p m call
+
+-- the calls after which p may be focused though it was ignored: a begin, any interest call that is let through, whatever its id, and a request of it
+abbrev pub may_bring : ℕ → Memory → Call → Bool
+may_bring p m (Begin events) = true
+may_bring p m (Interest id layer) = is_allowed m layer
+may_bring p m (RequestFocus id) = eqb id p
+may_bring p m call = false
+
 unfoldable pub may_focus : ℕ → Memory → Call → Bool
-may_focus p m (Begin events) = true
-may_focus p m (Interest id layer) = is_allowed m layer
-may_focus p m (RequestFocus id) = eqb id p
-may_focus p m call = false
+may_focus p m call = is_taken m call && may_bring p m call
 
 -- ---- lists of calls: each gets the state that the last one left
 unfoldable pub run : Memory → List Call → Memory

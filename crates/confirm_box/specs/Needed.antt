@@ -11,13 +11,16 @@ use Rattle.memory_rules.specs.declared.Memory.{Memory}
 use Rattle.memory_rules.specs.State.{new_memory}
 use Rattle.memory_rules.specs.Calls.{Call, Begin, Interest, End, RequestFocus, RequestFocusNextFrame, IgnoreFocus, MoveFocus, SetModalLayer, done_by}
 use Rattle.confirm_box.specs.KeptOut.{is_focused, waits, was_last, is_cached, kept_out, lets_in, may_focus, run, none_is}
-use Rattle.confirm_box.specs.Modal.{keeps_under}
+use Rattle.confirm_box.specs.Modal.{in_force, is_set, keeps_under}
 use Rattle.confirm_box.specs.Instance.{page, box}
 
 -- from a new memory: calls, and more calls after them
 pub record Case : Type 0 where
   pub before : List Call
   pub calls : List Call
+
+abbrev pub then : List Call → List Call → Case
+then before calls = record { before = before; calls = calls }
 
 abbrev pub first_of : Case → Memory
 first_of c = run new_memory c.before
@@ -37,10 +40,10 @@ parts m = is_focused m 12 ∷ waits m 12 ∷ was_last m 12 ∷ is_cached m 12 �
 
 abbrev pub part_cases : List Case
 part_cases =
-    record { before = RequestFocus 12 ∷ []; calls = [] }
-    ∷ record { before = RequestFocusNextFrame 12 ∷ []; calls = Begin [] ∷ [] }
-    ∷ record { before = on_page 12 ∷ IgnoreFocus 12 ∷ []; calls = MoveFocus previous ∷ in_box 21 ∷ [] }
-    ∷ record { before = on_page 12 ∷ in_box 21 ∷ []; calls = Begin (AccessKitFocus 12 ∷ []) ∷ [] }
+    then (RequestFocus 12 ∷ []) []
+    ∷ then (RequestFocusNextFrame 12 ∷ []) (Begin [] ∷ [])
+    ∷ then (on_page 12 ∷ IgnoreFocus 12 ∷ []) (MoveFocus previous ∷ in_box 21 ∷ [])
+    ∷ then (on_page 12 ∷ in_box 21 ∷ []) (Begin (AccessKitFocus 12 ∷ []) ∷ [])
     ∷ []
 
 abbrev pub one_each : List (List Bool)
@@ -56,7 +59,7 @@ three = on_page 12 ∷ RequestFocus 12 ∷ RequestFocusNextFrame 12 ∷ []
 abbrev pub lets_it_in : Call → Bool
 lets_it_in call = lets_in 12 new_memory call && not (kept_out (done_by call new_memory).memory 12)
 
--- ---- what a program keeps to while a box of Order 2 is open: in each case one clause alone says that the calls do not, and they let 12 in
+-- ---- what a program keeps to while a box of Order 2 is open: in each case one clause alone says that the calls do not keep to it, and they let 12 in, which was kept out
 abbrev pub used : List Candidate
 used = []
 
@@ -67,31 +70,39 @@ bad_used = let origin : Pos2 = record { x = of_bits binary32 0; y = of_bits bina
 abbrev pub layer_of : ℕ → LayerId
 layer_of order = record { order = order; id = 8 }
 
-abbrev pub clauses : List (List Call)
+abbrev pub set_box : Call
+set_box = SetModalLayer box.layer
+
+abbrev pub clauses : List Case
 clauses =
     -- requests
-    (RequestFocus 12 ∷ [])
-    ∷ (RequestFocusNextFrame 12 ∷ [])
-    -- an interest call before the layer is in force, with a layer of its own Order, or with one of a higher
-    ∷ (SetModalLayer box.layer ∷ on_page 12 ∷ [])
-    ∷ (SetModalLayer box.layer ∷ End used ∷ Interest 12 (layer_of 2) ∷ [])
+    then [] (RequestFocus 12 ∷ [])
+    ∷ then [] (RequestFocusNextFrame 12 ∷ [])
+    -- an interest call before the layer is in force, and with a layer of its own Order
+    ∷ then [] (set_box ∷ on_page 12 ∷ [])
+    ∷ then [] (set_box ∷ End used ∷ Interest 12 (layer_of 2) ∷ [])
     -- the layer set by a refused call, or a lower one set
-    ∷ (SetModalLayer (layer_of 7) ∷ End used ∷ on_page 12 ∷ [])
-    ∷ (SetModalLayer (layer_of 1) ∷ End used ∷ on_page 12 ∷ [])
-    -- the layer not set again, or the pass not ended
-    ∷ (SetModalLayer box.layer ∷ End used ∷ End used ∷ on_page 12 ∷ [])
-    ∷ (SetModalLayer box.layer ∷ End bad_used ∷ on_page 12 ∷ [])
+    ∷ then [] (SetModalLayer (layer_of 7) ∷ End used ∷ on_page 12 ∷ [])
+    ∷ then [] (SetModalLayer (layer_of 1) ∷ End used ∷ on_page 12 ∷ [])
+    -- the layer not set again, and the pass not ended
+    ∷ then [] (set_box ∷ End used ∷ End used ∷ on_page 12 ∷ [])
+    ∷ then [] (set_box ∷ End bad_used ∷ on_page 12 ∷ [])
+    -- a lower layer in force at the start, and one set
+    ∷ then (SetModalLayer (layer_of 0) ∷ End used ∷ []) (on_page 12 ∷ [])
+    ∷ then (SetModalLayer (layer_of 0) ∷ []) (End used ∷ on_page 12 ∷ [])
     ∷ []
 
-abbrev pub breaks : List Call → Bool
-breaks calls = not (keeps_under box.layer.order 12 false false calls) && not (kept_out (run new_memory calls) 12)
+abbrev pub breaks : Case → Bool
+breaks c =
+    let m = first_of c in
+    kept_out m 12 && (not (keeps_under box.layer.order 12 (in_force box.layer.order m) (is_set box.layer.order m) m c.calls) && not (kept_out (last_of c) 12))
 
 -- ---- after an ignore of 12: in each case one clause alone says that the calls may focus it, and they do
 abbrev pub ignored_cases : List Case
 ignored_cases =
-    record { before = RequestFocusNextFrame 12 ∷ IgnoreFocus 12 ∷ []; calls = Begin [] ∷ [] }
-    ∷ record { before = on_page 12 ∷ MoveFocus previous ∷ IgnoreFocus 12 ∷ []; calls = in_box 21 ∷ [] }
-    ∷ record { before = IgnoreFocus 12 ∷ []; calls = RequestFocus 12 ∷ [] }
+    then (RequestFocusNextFrame 12 ∷ IgnoreFocus 12 ∷ []) (Begin [] ∷ [])
+    ∷ then (on_page 12 ∷ MoveFocus previous ∷ IgnoreFocus 12 ∷ []) (in_box 21 ∷ [])
+    ∷ then (IgnoreFocus 12 ∷ []) (RequestFocus 12 ∷ [])
     ∷ []
 
 abbrev pub comes_back : Case → Bool

@@ -1,18 +1,24 @@
 -- The rule by which a program opens a confirm box over fields that are to be kept out. egui has none (docs/DIFFERENCES.md). Definitions only.
-use Rattle.std.specs.Prelude.{ℕ, Bool, ◌≡◌, ◌≤◌, ◌+◌, true, false, not, ◌&&◌, List, [], ◌∷◌, ◌++◌, map, eqb, length}
+use Rattle.std.specs.Prelude.{ℕ, zero, suc, Bool, ◌≡◌, ◌≤◌, ◌+◌, true, false, not, cond, ◌&&◌, ◌||◌, List, [], ◌∷◌, ◌++◌, map, eqb, length}
 use Rattle.layers.specs.declared.LayerId.{LayerId}
 use Rattle.layers.specs.Layers.{layer_refusal}
-use Rattle.focus_cache.specs.Cache.{room_in}
+use Rattle.search.specs.declared.Candidate.{Candidate}
+use Rattle.focus_cache.specs.Cache.{room_in, has_id}
 use Rattle.focus.specs.Focus.{held_of}
 use Rattle.used.specs.Used.{elem}
 use Rattle.memory_rules.specs.declared.Memory.{Memory}
 use Rattle.memory_rules.specs.State.{focus_of}
 use Rattle.memory_rules.specs.Memory.{is_allowed}
-use Rattle.memory_rules.specs.Calls.{Call, done_by}
+use Rattle.memory_rules.specs.Calls.{Call, Begin}
 use Rattle.memory_rules.specs.Calls as Calls
-use Rattle.confirm_box.specs.KeptOut.{is_cached, run}
+use Rattle.confirm_box.specs.KeptOut.{is_taken, lets_in, run, none_is}
 
--- ---- a box: its layer, its fields in their order, the one of them that is to have the focus, the fields under it, and those of these that are ignored first, so that the cache has places for the box's own
+-- a call that is refused
+abbrev pub is_refused : Memory → Call → Bool
+is_refused m call = not (is_taken m call)
+
+-- ---- a box: its layer, its fields in their order, and the one of them that is to have the focus. Under it: every field that has been asked for and may lie under the box while it is open, and those of these that are
+-- ignored first, so that the cache has places for the box's own
 pub record Box : Type 0 where
   pub layer : LayerId
   pub fields : List ℕ
@@ -26,29 +32,59 @@ ignoring ids = map Calls.IgnoreFocus ids
 abbrev pub wanting : LayerId → List ℕ → List Call
 wanting layer ids = map (λ (id : ℕ). Calls.Interest id layer) ids
 
--- the calls that open it: after them comes no interest call for a field under it in their pass
+-- the calls that open it, in a pass, after the interest calls of the fields under it
 unfoldable pub opening : Box → List Call
 opening b = ignoring b.freed ++ (Calls.SetModalLayer b.layer ∷ (wanting b.layer b.fields ++ (ignoring b.under ++ (Calls.RequestFocusNextFrame b.focus ∷ []))))
 
--- ---- how many ids the cache holds, and how many it has places for
-abbrev pub held : Memory → ℕ
-held m = length (held_of (focus_of m))
+-- what they ask for to keep the fields out: no modal layer in force turns the box's layer away, the focus is to go to one of its fields, and no call is refused
+pub record Opens (m : Memory) (b : Box) : Type 0 where
+  pub let_through : is_allowed m b.layer ≡ true
+  pub focus : elem b.fields b.focus ≡ true
+  pub taken : none_is is_refused m (opening b) ≡ true
+
+-- ---- what none is refused for: a layer that is one, no id 0, and places in the cache for those fields of the box that it does not hold
+abbrev pub cached_in : Memory → List Candidate
+cached_in m = held_of (focus_of m)
 
 abbrev pub room : Memory → ℕ
 room m = let f = focus_of m in room_in f.ids f.rects
 
--- what the rule asks of the box and the state: a layer that is one and that no modal layer in force turns away, no id 0, a focus within the box, and places in the cache for all of its fields
-pub record Opens (m : Memory) (b : Box) : Type 0 where
+unfoldable pub new_in : List Candidate → List ℕ → ℕ
+new_in held [] = zero
+new_in held (id ∷ ids) = cond (has_id held id) (new_in held ids) (suc (new_in held ids))
+
+pub record Fits (m : Memory) (b : Box) : Type 0 where
   pub layer : layer_refusal b.layer ≡ 0
-  pub let_through : is_allowed m b.layer ≡ true
-  pub ids : (elem b.fields 0 ≡ false) × (elem b.under 0 ≡ false) × (elem b.freed 0 ≡ false)
-  pub focus : elem b.fields b.focus ≡ true
-  pub places : held (run m (ignoring b.freed)) + length b.fields ≤ room m
+  pub ids : (elem (b.focus ∷ b.fields) 0 ≡ false) × (elem b.under 0 ≡ false) × (elem b.freed 0 ≡ false)
+  pub places : (let held = cached_in (run m (ignoring b.freed)) in length held + new_in held b.fields ≤ room m)
 
--- ---- a call that is refused; ids that are all cached
-abbrev pub is_refused : Memory → Call → Bool
-is_refused m call = not (eqb (done_by call m).refusal 0)
+-- ids that are all held
+unfoldable pub all_held : List Candidate → List ℕ → Bool
+all_held held [] = true
+all_held held (id ∷ ids) = has_id held id && all_held held ids
 
-unfoldable pub all_cached : Memory → List ℕ → Bool
-all_cached m [] = true
-all_cached m (id ∷ ids) = is_cached m id && all_cached m ids
+-- ---- the same for one field p, with any calls between them: an interest call for another, an ignore of p, and a request of another for the next begin
+pub record Spread : Type 0 where
+  pub id : ℕ
+  pub layer : LayerId
+  pub between : List Call
+  pub after : List Call
+  pub focus : ℕ
+
+unfoldable pub spread : ℕ → Spread → List Call
+spread p s = Calls.Interest s.id s.layer ∷ (s.between ++ (Calls.IgnoreFocus p ∷ (s.after ++ (Calls.RequestFocusNextFrame s.focus ∷ []))))
+
+-- a begin, or a call that lets p in
+abbrev pub is_begin : Call → Bool
+is_begin (Begin events) = true
+is_begin call = false
+
+unfoldable pub disturbs : ℕ → Memory → Call → Bool
+disturbs p m call = is_begin call || lets_in p m call
+
+-- what they ask for: the interest call is taken and let through, neither p nor the other is 0, and none of the calls disturbs
+pub record Spreads (m : Memory) (p : ℕ) (s : Spread) : Type 0 where
+  pub taken : is_taken m (Calls.Interest s.id s.layer) ≡ true
+  pub let_through : is_allowed m s.layer ≡ true
+  pub ids : (eqb p 0 ≡ false) × (eqb s.focus 0 ≡ false)
+  pub quiet : none_is (disturbs p) m (spread p s) ≡ true

@@ -9,16 +9,16 @@ ghost use Rattle.used.specs.Used.{elem, repeated};
 ghost use Rattle.focus_rules.specs.Rules.{id_or_nothing};
 ghost use Rattle.memory_rules.specs.declared.Memory.{Memory};
 ghost use Rattle.memory_rules.specs.State.{nav_of};
-ghost use Rattle.memory_rules.specs.Memory.{is_below};
+ghost use Rattle.memory_rules.specs.Memory.{is_below, is_allowed};
 ghost use Rattle.memory_rules.specs.Calls.{Call, Interest, IgnoreFocus, done_by};
 ghost use Rattle.confirm_box.specs.KeptOut.{is_focused, kept_out, lets_in, may_focus, run, none_is};
 ghost use Rattle.confirm_box.specs.Modal.{is_under, in_force, is_set, keeps_under};
-ghost use Rattle.confirm_box.specs.Rule.{Box, Opens, opening, ignoring, all_cached, held, room, is_refused};
+ghost use Rattle.confirm_box.specs.Rule.{Box, Opens, Fits, Spread, Spreads, opening, spread, ignoring, all_held, cached_in, room, is_refused};
 ghost use Rattle.confirm_box.specs.Instance as Instance;
 ghost use Rattle.confirm_box.specs.Needed as Needed;
 
-// From every state every call of Memory, with any arguments, refused or not, leaves an id kept out that is, but for three: an interest call for it that is let through, and a request of it, for now or for
-// the next pass. There is nothing to run.
+// From every state every call of Memory, with any arguments, refused or not, leaves an id kept out that is, but for three where they are taken: an interest call for it that is let through, and a request of it, for now or
+// for the next begin. There is nothing to run.
 pub fn call_keeps_out()
     ensures { (p : ℕ) (m : Memory) (call : Call) → kept_out m p ≡ true → lets_in p m call ≡ false → kept_out (done_by call m).memory p ≡ true }
 {}
@@ -29,9 +29,9 @@ pub fn list_keeps_out()
         (n : ℕ) → (kept_out (run m (take n calls)) p ≡ true) × (is_focused (run m (take n calls)) p ≡ false) }
 {}
 
-// An interest call for a layer below the modal layer in force leaves the memory as it was, every number of it, whatever its id. There is nothing to run.
+// An interest call for a layer below the modal layer in force is turned away, and leaves the memory as it was, every number of it, whatever its id. There is nothing to run.
 pub fn turned_away_changes_nothing()
-    ensures { (m : Memory) (id : ℕ) (layer : LayerId) → is_under m layer ≡ true → (done_by (Interest id layer) m).memory ≡ m }
+    ensures { (m : Memory) (id : ℕ) (layer : LayerId) → is_under m layer ≡ true → (is_allowed m layer ≡ false) × ((done_by (Interest id layer) m).memory ≡ m) }
 {}
 
 // A layer of a lower Order is below one of a higher, whatever their places are. There is nothing to run.
@@ -39,28 +39,41 @@ pub fn lower_order_is_below()
     ensures { (m : Memory) (layer : LayerId) (modal : LayerId) → ltb layer.order modal.order ≡ true → is_below m layer modal ≡ true }
 {}
 
-// While the box's modal layer is set in every pass, no event of any kind focuses a field that is kept out and of a lower Order: after each call of a list that asks no focus for p, and makes interest calls for p
-// only with a layer of a lower Order and only while the box's layer is in force, p is kept out. There is nothing to run.
+// While the box's modal layer is set in every pass, no event of any kind focuses a field that is kept out and lies on a lower layer: p is kept out after each call of a list that asks no focus for it and lets none of its
+// interest calls through, which need not be asked of layers of a lower Order than the box's. There is nothing to run.
 pub fn box_keeps_out()
-    ensures { (order : ℕ) (p : ℕ) (m : Memory) (calls : List Call) → kept_out m p ≡ true → keeps_under order p (in_force order m) (is_set order m) calls ≡ true →
-        (n : ℕ) → kept_out (run m (take n calls)) p ≡ true }
+    ensures { (order : ℕ) (p : ℕ) (m : Memory) (calls : List Call) → kept_out m p ≡ true → keeps_under order p (in_force order m) (is_set order m) m calls ≡ true →
+        (n : ℕ) → (kept_out (run m (take n calls)) p ≡ true) × (is_focused (run m (take n calls)) p ≡ false) }
 {}
 
-// The rule by which a box is opened keeps every field under it out, from every state, and none of its calls is refused. There is nothing to run.
+// The rule: from every state, where none of the calls that open a box is refused, no modal layer in force turns its layer away, and the focus is to go to one of its fields, each field under it that is not one of its own is
+// kept out, and the focus waits for the next begin to go where it should. There is nothing to run.
 pub fn opening_keeps_out()
     ensures { (m : Memory) (b : Box) → Opens m b →
-        (none_is is_refused m (opening b) ≡ true) × ((p : ℕ) → elem b.under p ≡ true → elem b.fields p ≡ false → kept_out (run m (opening b)) p ≡ true) }
+        ((p : ℕ) → elem b.under p ≡ true → elem b.fields p ≡ false → kept_out (run m (opening b)) p ≡ true)
+        × (id_or_nothing (nav_of (run m (opening b))).id_next_frame ≡ Some b.focus) }
+{}
+
+// None of these calls is refused where the box's layer is a layer, no id is 0, and the cache has places for the box's fields after the first ignores. There is nothing to run.
+pub fn opening_is_taken()
+    ensures { (m : Memory) (b : Box) → Fits m b → none_is is_refused m (opening b) ≡ true }
 {}
 
 // Each cached id that is ignored frees a place of the cache, so that as many ignored as the box has fields are enough, however full it is. There is nothing to run.
 pub fn ignoring_frees_places()
-    ensures { (m : Memory) (ids : List ℕ) → repeated ids ≡ false → elem ids 0 ≡ false → all_cached m ids ≡ true → held (run m (ignoring ids)) + length ids ≤ room m }
+    ensures { (m : Memory) (ids : List ℕ) → repeated ids ≡ false → elem ids 0 ≡ false → all_held (cached_in m) ids ≡ true → length (cached_in (run m (ignoring ids))) + length ids ≤ room m }
 {}
 
-// Both together: a box opened by the rule, and then any calls by which its layer is set in every pass: at no point is a field under it focused. There is nothing to run.
+// The rule and what comes after it: a box opened by the rule, and then calls that keep to it: at no point is a field under the box focused, and it stays kept out. There is nothing to run.
 pub fn opened_box_keeps_out()
     ensures { (m : Memory) (b : Box) (p : ℕ) (calls : List Call) → Opens m b → elem b.under p ≡ true → elem b.fields p ≡ false →
-        keeps_under b.layer.order p (in_force b.layer.order m) true calls ≡ true → (n : ℕ) → is_focused (run (run m (opening b)) (take n calls)) p ≡ false }
+        keeps_under b.layer.order p (in_force b.layer.order m) true (run m (opening b)) calls ≡ true →
+        (n : ℕ) → (kept_out (run (run m (opening b)) (take n calls)) p ≡ true) × (is_focused (run (run m (opening b)) (take n calls)) p ≡ false) }
+{}
+
+// The rule for one field, with any calls between its own that neither begin a pass nor let the field in: it is kept out. There is nothing to run.
+pub fn spread_rule_keeps_out()
+    ensures { (m : Memory) (p : ℕ) (s : Spread) → Spreads m p s → kept_out (run m (spread p s)) p ≡ true }
 {}
 
 // From every state: an id that is ignored is not focused before a begin, an interest call that is let through, whatever its id, or a request of it; so the end of the pass leaves it unfocused. There is nothing to run.
@@ -69,12 +82,12 @@ pub fn ignored_is_not_focused()
         (n : ℕ) → is_focused (run (done_by (IgnoreFocus p) m).memory (take n calls)) p ≡ false }
 {}
 
-// The premises can be met, so that these are no theorems about nothing: they hold of a box of two fields over a page of two, one of them focused and the other waiting for the next begin, and of two passes after
-// the box is opened, with a Shift+Tab and a request of a field under it: both fields are kept out, and at the end the second field of the box is focused. There is nothing to run.
+// What the rule and what comes after it ask for can be met: by a box of two fields over a page of two, one of them focused and the other waiting for the next begin, and two passes after it, with a Shift+Tab and a request of
+// a field under it; both fields of the page are kept out, and at the end the second field of the box is focused. There is nothing to run.
 pub fn premises_can_be_met()
-    ensures { Opens Instance.start Instance.box
+    ensures { Opens Instance.start Instance.box × Fits Instance.start Instance.box × Spreads Instance.start 11 Instance.spread
         × (kept_out (run Instance.start (opening Instance.box)) 11 ≡ true) × (kept_out (run Instance.start (opening Instance.box)) 12 ≡ true)
-        × (keeps_under Instance.box.layer.order 11 (in_force Instance.box.layer.order Instance.start) true Instance.calls ≡ true)
+        × (keeps_under Instance.box.layer.order 11 (in_force Instance.box.layer.order Instance.start) true (run Instance.start (opening Instance.box)) Instance.calls ≡ true)
         × (id_or_nothing (nav_of (run (run Instance.start (opening Instance.box)) Instance.calls)).focused ≡ Some 22) }
 {}
 

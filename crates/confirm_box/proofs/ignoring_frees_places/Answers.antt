@@ -1,4 +1,4 @@
-use Rattle.confirm_box.proofs.Opens.{frees_places}
+use Rattle.confirm_box.proofs.Places.{frees_places}
 use Rattle.confirm_box.proofs.ignoring_frees_places.Goals as goal
 
 pub returns : goal.returns
