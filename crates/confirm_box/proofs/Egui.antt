@@ -1,4 +1,4 @@
--- What egui's methods leave of an id that nothing in the focus names: in its own options and map. Assumes nothing.
+-- Tests, options, the list of cached ids and the search, of an id that is not among them. Assumes nothing.
 use lib.ListN.{length-append}
 use native.Mathlib.Omega.{arith}
 use Rattle.std.specs.Prelude.{ℕ, suc, ◌≤◌, length, Bool, true, false, cond, ◌&&◌, ◌||◌, ◌≡◌, Option, None, Some, List, [], ◌∷◌, ◌++◌, eqb, Float}

@@ -19,7 +19,7 @@ use Rattle.confirm_box.specs.Rule.{Box, Opens, Spread, Spreads, opening, spread,
 use Rattle.confirm_box.proofs.Egui.{neither}
 use Rattle.confirm_box.proofs.Calls.{focus_in, at_end}
 use Rattle.confirm_box.proofs.Kept.{another, Unfocused, ignored}
-use Rattle.confirm_box.proofs.Under.{Flags, Out as KeptAndUnfocused, at_least, modal_means, is_plain, plain, set_after, under_kept}
+use Rattle.confirm_box.proofs.Under.{Flags, Stays, at_least, modal_means, is_plain, plain, set_after, under_kept}
 use Rattle.confirm_box.proofs.Steps.{Quiet, both_quiet, quiet_allowed, ignoring_quiet, run_append, none_first, none_split, each_keeps, set_quiet, next_taken, want_last, next_after, id_taken}
 use Rattle.confirm_box.proofs.Out.{Passed, Out, call_passed, call_out, shut}
 
@@ -168,7 +168,7 @@ module _ (m : Memory) (b : Box) (o : Opens m b) where
         let passed = wanting_passes p b.layer b.fields b.focus set o.focus other set_allowed all_taken.1 in
         rw opened_is (shut p gone b.focus (other_than b.fields b.focus p o.focus other) all_taken.3 (ignoring_out p b.under wanted (some_id b.under wanted p all_taken.2 under) under passed))
 
-    pub opened_stays : (calls : List Call) → keeps_under b.layer.order p (in_force b.layer.order m) true (run m (opening b)) calls ≡ true → (n : ℕ) → KeptAndUnfocused b.layer.order p (run (run m (opening b)) (take n calls))
+    pub opened_stays : (calls : List Call) → keeps_under b.layer.order p (in_force b.layer.order m) true (run m (opening b)) calls ≡ true → (n : ℕ) → Stays b.layer.order p (run (run m (opening b)) (take n calls))
     opened_stays calls h n = under_kept b.layer.order p calls (run m (opening b)) (in_force b.layer.order m) true opened_kept opened_set h n
 
 pub opens : (m : Memory) (b : Box) → Opens m b

@@ -1,4 +1,4 @@
--- The calls of the rule, one by one, and lists of them: none is refused, and what each leaves of the focus and of what decides who is let through. Assumes nothing.
+-- The calls of the rule one by one, and lists of calls: when each is taken, and what it leaves of the focus and of what decides who is let through. Assumes nothing.
 use Rattle.std.specs.Prelude.{ℕ, zero, suc, Bool, true, false, cond, not, ◌&&◌, ◌||◌, ◌≡◌, ◌≤◌, Option, None, Some, List, [], ◌∷◌, ◌++◌, map, eqb, length}
 use mathlib.Core.Path.{refl, sym, ap, ◌∙◌, subst}
 use mathlib.Core.Bool.{and-true}

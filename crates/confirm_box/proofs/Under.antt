@@ -210,11 +210,11 @@ module _ (order p : ℕ) where
     goes_on (SetSublayer parent child) h = on (SetSublayer parent child) refl h
 
   -- ---- lists of calls
-  abbrev pub Out : Memory → Type 0
-  Out m = (kept_out m p ≡ true) × (is_focused m p ≡ false)
+  abbrev pub Stays : Memory → Type 0
+  Stays m = (kept_out m p ≡ true) × (is_focused m p ≡ false)
 
   pub under_kept : (calls : List Call) (m : Memory) (last now : Bool) → kept_out m p ≡ true → Flags order last now (focus_in m) → keeps_under order p last now m calls ≡ true
-      → (n : ℕ) → Out (run m (take n calls))
+      → (n : ℕ) → Stays (run m (take n calls))
   unfolding run keeps_under
   under_kept calls m last now k f h zero = (k, kept_unfocused p m k)
   under_kept [] m last now k f h (suc n) = (k, kept_unfocused p m k)
@@ -223,5 +223,5 @@ module _ (order p : ℕ) where
       let (ok, g) = goes_on m last now f call a in
       under_kept calls (done_by call m).memory (last_after m last now call) (now_after order m now call) (call_kept p m call k ok) g b n
 
-  pub box_kept : (m : Memory) (calls : List Call) → kept_out m p ≡ true → keeps_under order p (in_force order m) (is_set order m) m calls ≡ true → (n : ℕ) → Out (run m (take n calls))
+  pub box_kept : (m : Memory) (calls : List Call) → kept_out m p ≡ true → keeps_under order p (in_force order m) (is_set order m) m calls ≡ true → (n : ℕ) → Stays (run m (take n calls))
   box_kept m calls k h = under_kept calls m (in_force order m) (is_set order m) k (λ e. modal_means order (nav_of m).top_modal_layer ∙ e, λ e. modal_means order (nav_of m).top_modal_layer_current_frame ∙ e) h
