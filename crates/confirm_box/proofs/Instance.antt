@@ -2,7 +2,7 @@
 use mathlib.Core.Path.{◌≡◌, refl}
 use native.Mathlib.Omega.{arith}
 use lib.Ieee.{of_bits, of_fields, lt}
-use Rattle.std.specs.Prelude.{true, map, Some}
+use Rattle.std.specs.Prelude.{true, map}
 use Rattle.std.specs.List.{list_all}
 use Rattle.refusal.specs.Refusal.{lowest}
 use Rattle.floats.specs.Count as Floats
@@ -19,38 +19,40 @@ use Rattle.layer_table.specs.Layers.{top_refusal, to_top}
 use Rattle.areas.specs.Areas.{new_areas, to_top_of, pass_ended}
 use Rattle.tables.specs.Tables.{written_on}
 use Rattle.search.specs.Search.{table_of}
-use Rattle.focus_rules.specs.Rules.{id_or_nothing, filter_of, started_of, begun_of, interested_of, ended_of, let_go}
+use Rattle.focus_rules.specs.Rules.{filter_of, started_of, begun_of, interested_of, ended_of, let_go}
 use Rattle.focus_cache.specs.Cache.{held_in, has_id, enlisted, without, full_refusal, corners_of, cache_on}
 use Rattle.focus_pass.specs.Pass as Pass
 use Rattle.used.specs.Used as Used
 use Rattle.focus_end.specs.End.{nav_ended, cache_ended, end_of}
 use Rattle.focus.specs.Focus as Focus
-use Rattle.memory_rules.specs.State.{nav_of, new_memory}
+use Rattle.memory_rules.specs.State.{new_memory}
 use Rattle.memory_rules.specs.Memory as Memory
 use Rattle.memory_rules.specs.Calls.{done_by}
 use Rattle.confirm_box.specs.KeptOut.{kept_out, lets_in, may_focus, run, none_is}
-use Rattle.confirm_box.specs.Modal.{in_force, keeps_under}
-use Rattle.confirm_box.specs.Rule.{Opens, Fits, Spreads, new_in, disturbs, opening}
+use Rattle.confirm_box.specs.Modal.{set_in_every_pass, keeps_under}
+use Rattle.confirm_box.specs.Rule.{all_held, new_in, disturbs, opening}
 use Rattle.confirm_box.specs.Rule.{spread as spreadCalls}
-use Rattle.confirm_box.specs.Instance.{start, box, spread, calls}
+use Rattle.confirm_box.specs.Instance.{start, Met}
 use Rattle.confirm_box.specs.Needed.{Case, first_of, parts, part_cases, one_each, slips, three, lets_it_in, clauses, breaks, ignored_cases, comes_back}
 
-pub computed : (Opens start box × Fits start box × Spreads start 11 spread × (kept_out (run start (opening box)) 11 ≡ true) × (kept_out (run start (opening box)) 12 ≡ true)
-    × (keeps_under box.layer.order 11 (in_force box.layer.order start) true (run start (opening box)) calls ≡ true)
-    × (id_or_nothing (nav_of (run (run start (opening box)) calls)).focused ≡ Some 22))
+pub computed : Met
     × ((map (λ (c : Case). parts (first_of c)) part_cases ≡ one_each) × (list_all slips part_cases ≡ true) × (list_all lets_it_in three ≡ true))
     × ((list_all breaks clauses ≡ true) × (list_all comes_back ignored_cases ≡ true))
-unfolding start opening new_in disturbs spreadCalls run none_is kept_out lets_in may_focus keeps_under done_by new_memory Memory.begun_of Memory.interested_of Memory.ended_of Memory.ignored_of Memory.requested Memory.requested_next Memory.surrendered Memory.moved Memory.modal_set Memory.is_allowed Memory.is_above Focus.new_focus Focus.interested_of Focus.ignored_of Focus.requested Focus.requested_next Focus.surrendered Focus.moved Focus.modal_set Pass.begin_refusal Pass.worst_of Pass.heard_all Pass.is_granted Pass.nav_begun Pass.begin_of Pass.interest_refusal Pass.interest_of Pass.ignore_of filter_of started_of begun_of interested_of ended_of let_go nav_ended cache_ended end_of Used.used_refusal Used.worst_of Used.repeated Used.elem held_in has_id enlisted without full_refusal corners_of cache_on written_on table_of layer_refusal any_of shift_only is_cardinal navigation_of matches_key within rect_refusal Floats.count_of lowest of_bits of_fields lt rank_in spot_in held_rows stable keep by_order by_family map_from pass_of end_rows new_areas pass_ended to_top_of top_refusal to_top marked
+unfolding start opening set_in_every_pass all_held new_in disturbs spreadCalls run none_is kept_out lets_in may_focus keeps_under done_by new_memory Memory.begun_of Memory.interested_of Memory.ended_of Memory.ignored_of Memory.requested Memory.requested_next Memory.surrendered Memory.moved Memory.modal_set Memory.is_allowed Memory.is_above Focus.new_focus Focus.interested_of Focus.ignored_of Focus.requested Focus.requested_next Focus.surrendered Focus.moved Focus.modal_set Pass.begin_refusal Pass.worst_of Pass.heard_all Pass.is_granted Pass.nav_begun Pass.begin_of Pass.interest_refusal Pass.interest_of Pass.ignore_of filter_of started_of begun_of interested_of ended_of let_go nav_ended cache_ended end_of Used.used_refusal Used.worst_of Used.repeated Used.elem held_in has_id enlisted without full_refusal corners_of cache_on written_on table_of layer_refusal any_of shift_only is_cardinal navigation_of matches_key within rect_refusal Floats.count_of lowest of_bits of_fields lt rank_in spot_in held_rows stable keep by_order by_family map_from pass_of end_rows new_areas pass_ended to_top_of top_refusal to_top marked
 computed = (
-  (
-    record { let_through = refl; focus = refl; taken = refl },
-    record { layer = refl; ids = (refl, refl, refl); places = omega arith },
-    record { taken = refl; let_through = refl; ids = (refl, refl); quiet = refl },
-    refl,
-    refl,
-    refl,
-    refl,
-  ),
+  record {
+    opens = record { let_through = refl; focus = refl; taken = refl };
+    fits = record { layer = refl; ids = (refl, refl, refl); places = omega arith };
+    spreads = record { taken = refl; let_through = refl; ids = (refl, refl); quiet = refl };
+    kept = (refl, refl);
+    keeps_under = refl;
+    in_force = (refl, refl);
+    every_pass = refl;
+    from_below = refl;
+    held = refl;
+    ignored = refl;
+    focused = refl;
+  },
   (refl, refl, refl),
   (refl, refl),
 )

@@ -16,7 +16,7 @@ use Rattle.memory_rules.specs.declared.Memory.{Memory}
 use Rattle.memory_rules.specs.State.{nav_of}
 use Rattle.memory_rules.specs.Memory.{is_allowed, ignored_of}
 use Rattle.memory_rules.specs.Calls.{Call, IgnoreFocus, done_by}
-use Rattle.confirm_box.specs.KeptOut.{is_focused, waits, was_last, is_cached, kept_out, names, lets_in, may_bring, may_focus, run, none_is}
+use Rattle.confirm_box.specs.KeptOut.{is_focused, waits, was_last, is_cached, kept_out, asks_for, is_let_through, lets_in, may_bring, may_focus, run, none_is}
 use Rattle.confirm_box.proofs.Egui.{both, widget_is, is_same, other_id, not_enlisted, not_without, itself_without, not_updated}
 use Rattle.confirm_box.proofs.Methods.{Moves, Finds, Hands, all_heard, ended, ruled_keeps, letgo_keeps}
 use Rattle.confirm_box.proofs.Calls.{focus_in, focus_after, leaves, Methods, keeps, unless_refused, throughout}
@@ -120,14 +120,17 @@ module _ (p : ℕ) where
   kept_unfocused m k = not_focused m (in_words m k).0
 
   -- ---- every call that is taken
+  abbrev pub asked : Memory → Call → Bool
+  asked m call = asks_for p call && is_let_through m call
+
   module _ (m : Memory) where
-    kept_methods : Methods m KeptOut (λ call. names p m call ≡ false)
+    kept_methods : Methods m KeptOut (λ call. asked m call ≡ false)
     kept_methods = record {
       begin = λ events ok. begin_kept events;
       want = λ id layer ok allowed. interest_kept id (another p id (is_allowed m layer) allowed ok);
       end = λ used ok. end_kept used;
-      ask = λ id ok f k. ((ok, k.0.1), k.1, k.2);
-      ask_next = λ id ok f k. (k.0, k.1, ok);
+      ask = λ id ok f k. ((another p id true refl ok, k.0.1), k.1, k.2);
+      ask_next = λ id ok f k. (k.0, k.1, another p id true refl ok);
       ignore = ignore_kept;
       set = λ layer ok f k. k;
     }

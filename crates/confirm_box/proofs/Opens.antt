@@ -205,4 +205,4 @@ module _ (m : Memory) (p : ℕ) (s : Spread) (o : Spreads m p s) where
       let first : Passed p (focus_in asked) = ap (λ (x : Option ℕ). is x p) (want_last m s.id s.layer (eqb-true _ 0 o.taken) o.let_through) ∙ another p s.id (is_allowed m s.layer) o.let_through (rw o.taken at i) in
       let passed = at_end (λ k. Passed p (focus_in k)) (disturbs p) (call_passed p) s.between asked first a in
       let out = at_end (λ k. Out p (focus_in k)) (disturbs p) (call_out p) s.after dropped (ignored p between o.ids.0, call_passed p between (IgnoreFocus p) d passed) c in
-      rw spread_is (shut p after s.focus (rw taken at e) taken out)
+      rw spread_is (shut p after s.focus (another p s.focus true refl (rw taken at e)) taken out)

@@ -1,6 +1,6 @@
 -- An id that is passed, and then ignored, stays so until the id of the next frame is another: any calls but a begin and those that let it in. Assumes nothing.
 use Rattle.std.specs.Prelude.{ℕ, true, false, ◌≡◌, Option, None, Some, List, eqb}
-use mathlib.Core.Path.{sym, ◌∙◌, subst}
+use mathlib.Core.Path.{refl, sym, ◌∙◌, subst}
 use mathlib.Core.Bool.{true≢false}
 use Rattle.input.specs.declared.Event.{Event}
 use Rattle.search.specs.declared.Candidate.{Candidate}
@@ -9,12 +9,12 @@ use Rattle.focus_maps.specs.Egui.{Focus, is, focused, with_frames, with_cache, h
 use Rattle.memory_rules.specs.declared.Memory.{Memory}
 use Rattle.memory_rules.specs.Memory.{is_allowed}
 use Rattle.memory_rules.specs.Calls.{Call, RequestFocusNextFrame, done_by}
-use Rattle.confirm_box.specs.KeptOut.{is_taken, names, lets_in, kept_out}
+use Rattle.confirm_box.specs.KeptOut.{is_taken, lets_in, kept_out}
 use Rattle.confirm_box.specs.Rule.{is_begin, disturbs}
 use Rattle.confirm_box.proofs.Egui.{neither, widget_is, not_enlisted}
 use Rattle.confirm_box.proofs.Methods.{Moves, all_heard, ended, ruled_keeps, letgo_keeps}
 use Rattle.confirm_box.proofs.Calls.{focus_in, Methods, keeps, unless_refused}
-use Rattle.confirm_box.proofs.Kept.{another, Unfocused, KeptOut, unfocused_moves, end_unfocused, ignore_unfocused, is_kept}
+use Rattle.confirm_box.proofs.Kept.{another, asked, Unfocused, KeptOut, unfocused_moves, end_unfocused, ignore_unfocused, is_kept}
 use Rattle.confirm_box.proofs.Steps.{next_after}
 
 module _ (p : ℕ) where
@@ -62,7 +62,7 @@ module _ (p : ℕ) where
   -- ---- the calls
   module _ (m : Memory) where
     abbrev Ok : Call → Type 0
-    Ok call = (is_begin call ≡ false) × (names p m call ≡ false)
+    Ok call = (is_begin call ≡ false) × (asked p m call ≡ false)
 
     passed_methods : Methods m Passed Ok
     unfolding interested_in_focus
@@ -81,7 +81,7 @@ module _ (p : ℕ) where
       begin = λ events ok. absurd (true≢false ok.0);
       want = λ id layer ok allowed. interest_out id (another p id (is_allowed m layer) allowed ok.1);
       end = λ used ok. end_out used;
-      ask = λ id ok f k. ((ok.1, k.0.1), k.1);
+      ask = λ id ok f k. ((another p id true refl ok.1, k.0.1), k.1);
       ask_next = λ id ok f k. k;
       ignore = λ id f k. (ignore_unfocused p id f k.0, ignore_passed id f k.1);
       set = λ layer ok f k. k;

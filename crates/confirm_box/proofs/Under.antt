@@ -5,6 +5,7 @@ use mathlib.Core.Bool.{false≢true, or-false, and-false}
 use native.Mathlib.Omega.{arith}
 use borrow.Author.Tests.{not-true, ne_eqb}
 use Rattle.std.proofs.lemmas.Bool.{leb-true, le-leb, ltb-true}
+use Rattle.std.specs.List.{list_all}
 use Rattle.refusal.specs.Refusal.{kept}
 use Rattle.refusal.specs.Limits.{used as usedLimit}
 use Rattle.input.specs.declared.Event.{Event}
@@ -20,8 +21,8 @@ use Rattle.memory_rules.specs.declared.Memory.{Memory}
 use Rattle.memory_rules.specs.State.{nav_of}
 use Rattle.memory_rules.specs.Memory.{is_allowed, stays_modal, is_below, ended_of, modal_set}
 use Rattle.memory_rules.specs.Calls.{Call, Begin, Interest, End, SetFocusLockFilter, RequestFocus, RequestFocusNextFrame, SurrenderFocus, IgnoreFocus, MoveFocus, SetModalLayer, StopTextInput, ResetAreas, InterruptIme, OpenPopupAt, KeepPopupOpen, ClosePopup, TogglePopup, CloseAllPopups, SetEverythingIsVisible, SetState, MoveToTop, SetSublayer, done_by}
-use Rattle.confirm_box.specs.KeptOut.{is_focused, is_taken, kept_out, lets_in, run}
-use Rattle.confirm_box.specs.Modal.{is_modal_of, in_force, is_set, last_after, now_after, is_lower, keeps_under}
+use Rattle.confirm_box.specs.KeptOut.{is_focused, is_taken, asks_for, is_let_through, kept_out, lets_in, run}
+use Rattle.confirm_box.specs.Modal.{is_modal_of, in_force, is_set, ends_pass, now_after, is_lower, set_in_every_pass, asks_from_below, keeps_under}
 use Rattle.confirm_box.proofs.Egui.{both}
 use Rattle.confirm_box.proofs.Methods.{Moves, all_heard, ended, ruled_keeps, letgo_keeps}
 use Rattle.confirm_box.proofs.Calls.{focus_in, focus_after, leaves, Methods, keeps}
@@ -89,7 +90,7 @@ module _ (order : ℕ) (m : Memory) (layer : LayerId) (last now : Bool) (k : Fla
 
   -- such a layer was set, or is now
   abbrev now_or : Bool → Bool
-  now_or t = t || leb order layer.order
+  now_or t = leb order layer.order || t
 
   reached : now ≡ true → is_modal_of order current ≡ true
   reached e = sym (modal_means order current) ∙ k.1 e
@@ -102,7 +103,7 @@ module _ (order : ℕ) (m : Memory) (layer : LayerId) (last now : Bool) (k : Fla
       go true e g = k.1 e
       go false e g =
           let (x, y) = both (not (eqb current.id 0)) (is_below m layer current) b in
-          modal_means order current ∙ rw (not-true (eqb current.id 0) x) (le-leb order current.order (omega (arith, below_lower m layer current y, leb-true order layer.order g)))
+          modal_means order current ∙ rw (not-true (eqb current.id 0) x) (le-leb order current.order (omega (arith, below_lower m layer current y, leb-true order layer.order (sym (or-false (leb order layer.order)) ∙ g))))
 
   -- and one that goes is not higher
   goes : stays_modal m layer ≡ false → now_or now ≡ true → leb order layer.order ≡ true
@@ -112,19 +113,19 @@ module _ (order : ℕ) (m : Memory) (layer : LayerId) (last now : Bool) (k : Fla
       go true e g =
           let (x, y) = both (not (eqb current.id 0)) (leb order current.order) (reached e) in
           le-leb order layer.order (omega (arith, leb-true order current.order y, not_below_lower m layer current (rw (not-true (eqb current.id 0) x) at b)))
-      go false e g = g
+      go false e g = sym (or-false (leb order layer.order)) ∙ g
 
   set_accepted : (b : Bool) → stays_modal m layer ≡ b → Flags order last (now_or now) (cond b f (set_modal_layer f layer))
   set_accepted true b = (k.0, stays b)
   set_accepted false b = (k.0, goes b)
 
-  set_flags : (r : ℕ) → Flags order last (now || (eqb r 0 && leb order layer.order)) (kept r f (cond (stays_modal m layer) f (set_modal_layer f layer)))
+  set_flags : (r : ℕ) → Flags order last ((eqb r 0 && leb order layer.order) || now) (kept r f (cond (stays_modal m layer) f (set_modal_layer f layer)))
   set_flags zero = set_accepted (stays_modal m layer) refl
-  set_flags (suc r) = rw (suc_some r, or-false now) k
+  set_flags (suc r) = rw (suc_some r) k
 
-  pub set_after : Flags order last (now || (is_taken m (SetModalLayer layer) && leb order layer.order)) (focus_in (done_by (SetModalLayer layer) m).memory)
+  pub set_after : Flags order last ((is_taken m (SetModalLayer layer) && leb order layer.order) || now) (focus_in (done_by (SetModalLayer layer) m).memory)
   unfolding done_by modal_set focus_after
-  set_after = subst (Flags order last (now || (is_taken m (SetModalLayer layer) && leb order layer.order))) (sym (leaves m (SetModalLayer layer)).1) (set_flags (layer_refusal layer))
+  set_after = subst (Flags order last ((is_taken m (SetModalLayer layer) && leb order layer.order) || now)) (sym (leaves m (SetModalLayer layer)).1) (set_flags (layer_refusal layer))
 
 -- ---- the calls but for end and set_modal_layer
 unfoldable pub is_plain : Call → Bool
@@ -152,7 +153,7 @@ module _ (order p : ℕ) where
   -- ---- a call: it lets nobody in, and leaves what the flags after it say
   module _ (m : Memory) (last now : Bool) (k : Flags order last now (focus_in m)) where
     abbrev Goes : Call → Type 0
-    Goes call = (is_lower order last call || not (lets_in p m call)) ≡ true → (lets_in p m call ≡ false) × Flags order (last_after m last now call) (now_after order m now call) (focus_in (done_by call m).memory)
+    Goes call = (is_lower order last call || not (lets_in p m call)) ≡ true → (lets_in p m call ≡ false) × Flags order (cond (ends_pass m call) now last) (now_after order m now call) (focus_in (done_by call m).memory)
 
     abbrev Left : Call → Type 0
     Left call = (lets_in p m call ≡ false) × Flags order last now (focus_in (done_by call m).memory)
@@ -221,7 +222,29 @@ module _ (order p : ℕ) where
   under_kept (call ∷ calls) m last now k f h (suc n) =
       let (a, b) = both _ _ h in
       let (ok, g) = goes_on m last now f call a in
-      under_kept calls (done_by call m).memory (last_after m last now call) (now_after order m now call) (call_kept p m call k ok) g b n
+      under_kept calls (done_by call m).memory (cond (ends_pass m call) now last) (now_after order m now call) (call_kept p m call k ok) g b n
 
   pub box_kept : (m : Memory) (calls : List Call) → kept_out m p ≡ true → keeps_under order p (in_force order m) (is_set order m) m calls ≡ true → (n : ℕ) → Stays (run m (take n calls))
   box_kept m calls k h = under_kept calls m (in_force order m) (is_set order m) k (λ e. modal_means order (nav_of m).top_modal_layer ∙ e, λ e. modal_means order (nav_of m).top_modal_layer_current_frame ∙ e) h
+
+  -- ---- in short
+  below_lets_nobody : (a l t g : Bool) → (not a || l) ≡ true → (l || not (t && (a && g))) ≡ true
+  below_lets_nobody a true t g h = refl
+  below_lets_nobody true false t g h = absurd (false≢true h)
+  below_lets_nobody false false t g h = rw (and-false t)
+
+  stays_in_force : (e now : Bool) → (not e || now) ≡ true → cond e now true ≡ true
+  stays_in_force true now h = h
+  stays_in_force false now h = refl
+
+  short_keeps : (calls : List Call) (m : Memory) (now : Bool) → set_in_every_pass order now m calls ≡ true → list_all (asks_from_below order p) calls ≡ true → keeps_under order p true now m calls ≡ true
+  unfolding set_in_every_pass keeps_under lets_in
+  short_keeps [] m now h k = refl
+  short_keeps (call ∷ calls) m now h k =
+      let (a, b) = both (not (ends_pass m call) || now) (set_in_every_pass order (now_after order m now call) (done_by call m).memory calls) h in
+      let (c, d) = both (asks_from_below order p call) (list_all (asks_from_below order p) calls) k in
+      rw (below_lets_nobody (asks_for p call) (is_lower order true call) (is_taken m call) (is_let_through m call) c, stays_in_force (ends_pass m call) now a) (short_keeps calls (done_by call m).memory (now_after order m now call) b d)
+
+  pub short_kept : (m : Memory) (calls : List Call) → kept_out m p ≡ true → in_force order m ≡ true → set_in_every_pass order (is_set order m) m calls ≡ true → list_all (asks_from_below order p) calls ≡ true
+      → (n : ℕ) → Stays (run m (take n calls))
+  short_kept m calls k f h a = box_kept m calls k (rw f (short_keeps calls m (is_set order m) h a))

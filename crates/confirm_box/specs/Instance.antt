@@ -1,18 +1,21 @@
 -- A page of two fields and a box of two, on which the premises of the theorems hold, from a new memory: the box, and the calls of two passes after it is opened. Definitions only.
-use Rattle.std.specs.Prelude.{ℕ, true, false, List, [], ◌∷◌, ◌++◌, map}
+use Rattle.std.specs.Prelude.{◌≡◌, Some, ℕ, true, false, List, [], ◌∷◌, ◌++◌, map}
 use Rattle.std.specs.Float.{binary32}
 use Rattle.std.specs.Float.Ieee.{of_bits}
+use Rattle.std.specs.List.{list_all}
 use Rattle.emath.specs.declared.Pos2.{Pos2}
 use Rattle.input.specs.declared.Event.TheVariants.{Key, AccessKitFocus}
 use Rattle.input.specs.FocusDirection.{previous}
 use Rattle.input.specs.Key.{tab}
 use Rattle.layers.specs.declared.LayerId.{LayerId}
 use Rattle.search.specs.declared.Candidate.{Candidate}
+use Rattle.focus_rules.specs.Rules.{id_or_nothing}
 use Rattle.memory_rules.specs.declared.Memory.{Memory}
-use Rattle.memory_rules.specs.State.{new_memory}
-use Rattle.memory_rules.specs.Calls.{Call, Begin, End, RequestFocus, RequestFocusNextFrame, MoveFocus, SetModalLayer, MoveToTop}
-use Rattle.confirm_box.specs.KeptOut.{run}
-use Rattle.confirm_box.specs.Rule.{Box, Spread, wanting}
+use Rattle.memory_rules.specs.State.{nav_of, new_memory}
+use Rattle.memory_rules.specs.Calls.{Call, done_by, IgnoreFocus, Begin, End, RequestFocus, RequestFocusNextFrame, MoveFocus, SetModalLayer, MoveToTop}
+use Rattle.confirm_box.specs.KeptOut.{kept_out, may_focus, run, none_is}
+use Rattle.confirm_box.specs.Modal.{is_under, in_force, is_set, set_in_every_pass, asks_from_below, keeps_under}
+use Rattle.confirm_box.specs.Rule.{Box, Spread, Opens, Fits, Spreads, wanting, opening, all_held, cached_in}
 
 -- ---- the page with fields 11 and 12, and the box with 21 and 22
 abbrev pub page : LayerId
@@ -43,6 +46,29 @@ used = map (λ (id : ℕ). record { id = id; rect = record { min = origin; max =
 abbrev pub passing : List Call
 passing = SetModalLayer box.layer ∷ (wanting page under ++ (wanting box.layer box.fields ++ (End used ∷ [])))
 
--- after the opening: the end of its pass, a Shift+Tab on the box's first field, and a request of a field under it
+-- the end of the pass in which it was opened; then a Shift+Tab on the box's first field, and a request of a field under it
+abbrev pub later : List Call
+later = Begin (Key tab true false 4 ∷ []) ∷ (passing ++ (Begin (AccessKitFocus 11 ∷ []) ∷ passing))
+
 abbrev pub calls : List Call
-calls = End used ∷ Begin (Key tab true false 4 ∷ []) ∷ (passing ++ (Begin (AccessKitFocus 11 ∷ []) ∷ passing))
+calls = End used ∷ later
+
+abbrev pub opened : Memory
+opened = run start (opening box)
+
+abbrev pub shown : Memory
+shown = run opened (End used ∷ [])
+
+-- ---- what the theorems ask for, and where the focus is at the end
+pub record Met : Type 0 where
+  pub opens : Opens start box
+  pub fits : Fits start box
+  pub spreads : Spreads start 11 spread
+  pub kept : (kept_out opened 11 ≡ true) × (kept_out opened 12 ≡ true)
+  pub keeps_under : keeps_under 2 11 (in_force 2 start) true opened calls ≡ true
+  pub in_force : (in_force 2 shown ≡ true) × (is_under shown page ≡ true)
+  pub every_pass : set_in_every_pass 2 (is_set 2 shown) shown later ≡ true
+  pub from_below : list_all (asks_from_below 2 11) later ≡ true
+  pub held : all_held (cached_in start) under ≡ true
+  pub ignored : none_is (may_focus 11) (done_by (IgnoreFocus 11) start).memory (End used ∷ []) ≡ true
+  pub focused : id_or_nothing (nav_of (run opened calls)).focused ≡ Some 22

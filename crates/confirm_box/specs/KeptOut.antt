@@ -33,15 +33,21 @@ module _ (m : Memory) (p : ℕ) where
 abbrev pub is_taken : Memory → Call → Bool
 is_taken m call = eqb (done_by call m).refusal 0
 
--- the three calls that let p in, where they are taken: an interest call for it that is let through, and a request of it, for now or for the next begin
-abbrev pub names : ℕ → Memory → Call → Bool
-names p m (Interest id layer) = eqb id p && is_allowed m layer
-names p m (RequestFocus id) = eqb id p
-names p m (RequestFocusNextFrame id) = eqb id p
-names p m call = false
+-- the three calls that ask for p: an interest call, and a request, for now or for the next begin
+abbrev pub asks_for : ℕ → Call → Bool
+asks_for p (Interest id layer) = eqb id p
+asks_for p (RequestFocus id) = eqb id p
+asks_for p (RequestFocusNextFrame id) = eqb id p
+asks_for p call = false
 
+-- only an interest call can be turned away
+abbrev pub is_let_through : Memory → Call → Bool
+is_let_through m (Interest id layer) = is_allowed m layer
+is_let_through m call = true
+
+-- they let it in where they are taken and let through
 unfoldable pub lets_in : ℕ → Memory → Call → Bool
-lets_in p m call = is_taken m call && names p m call
+lets_in p m call = is_taken m call && (asks_for p call && is_let_through m call)
 
 -- the calls after which p may be focused though it was ignored: a begin, any interest call that is let through, whatever its id, and a request of it
 abbrev pub may_bring : ℕ → Memory → Call → Bool

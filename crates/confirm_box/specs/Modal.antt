@@ -5,7 +5,7 @@ use Rattle.memory_rules.specs.declared.Memory.{Memory}
 use Rattle.memory_rules.specs.State.{nav_of}
 use Rattle.memory_rules.specs.Memory.{is_below}
 use Rattle.memory_rules.specs.Calls.{Call, Interest, End, SetModalLayer, done_by}
-use Rattle.confirm_box.specs.KeptOut.{is_taken, lets_in}
+use Rattle.confirm_box.specs.KeptOut.{is_taken, asks_for, lets_in}
 
 -- a modal layer is in force, and the layer is below it
 abbrev pub is_under : Memory → LayerId → Bool
@@ -21,23 +21,34 @@ in_force order m = is_modal_of order (nav_of m).top_modal_layer
 abbrev pub is_set : ℕ → Memory → Bool
 is_set order m = is_modal_of order (nav_of m).top_modal_layer_current_frame
 
--- ---- two flags that go along with the calls: such a modal layer was set in the last pass, and so is in force, or in this one. A call that is refused sets none and ends no pass
-abbrev pub last_after : Memory → Bool → Bool → Call → Bool
-last_after m last now (End used) = cond (is_taken m (End used)) now last
-last_after m last now call = last
+-- ---- what the calls of a pass do to that: an end ends the pass, a call sets such a layer. One that is refused does neither
+abbrev pub ends_pass : Memory → Call → Bool
+ends_pass m (End used) = is_taken m (End used)
+ends_pass m call = false
 
+abbrev pub sets : ℕ → Memory → Call → Bool
+sets order m (SetModalLayer layer) = is_taken m (SetModalLayer layer) && leb order layer.order
+sets order m call = false
+
+-- whether one was set in this pass, after a call
 abbrev pub now_after : ℕ → Memory → Bool → Call → Bool
-now_after order m now (SetModalLayer layer) = now || (is_taken m (SetModalLayer layer) && leb order layer.order)
-now_after order m now (End used) = cond (is_taken m (End used)) false now
-now_after order m now call = now
+now_after order m now call = cond (ends_pass m call) false (sets order m call || now)
 
 -- an interest call with a layer of a lower Order, while such a modal layer is in force
 abbrev pub is_lower : ℕ → Bool → Call → Bool
-is_lower order last (Interest id layer) = last && ltb layer.order order
-is_lower order last call = false
+is_lower order in_force (Interest id layer) = in_force && ltb layer.order order
+is_lower order in_force call = false
 
--- what a program keeps to while a box of this Order is open: no call lets p in, of which interest calls with a layer of a lower Order need not be asked while the box's modal layer is set in every pass
+-- ---- what a program keeps to while a box of this Order is open. In short: such a layer is set in every pass, and each call that asks for p is an interest call with a layer of a lower Order
+unfoldable pub set_in_every_pass : ℕ → Bool → Memory → List Call → Bool
+set_in_every_pass order now m [] = true
+set_in_every_pass order now m (call ∷ calls) = (not (ends_pass m call) || now) && set_in_every_pass order (now_after order m now call) (done_by call m).memory calls
+
+abbrev pub asks_from_below : ℕ → ℕ → Call → Bool
+asks_from_below order p call = not (asks_for p call) || is_lower order true call
+
+-- at length: no call lets p in, of which interest calls with a layer of a lower Order need not be asked while such a layer is in force, as one was set in the last pass; `last` and `now` say of this pass and the next
 unfoldable pub keeps_under : ℕ → ℕ → Bool → Bool → Memory → List Call → Bool
 keeps_under order p last now m [] = true
 keeps_under order p last now m (call ∷ calls) =
-    (is_lower order last call || not (lets_in p m call)) && keeps_under order p (last_after m last now call) (now_after order m now call) (done_by call m).memory calls
+    (is_lower order last call || not (lets_in p m call)) && keeps_under order p (cond (ends_pass m call) now last) (now_after order m now call) (done_by call m).memory calls

@@ -2,6 +2,7 @@
 use Rattle.std.specs.Prelude.{ℕ, Bool, true, false, not, ◌&&◌, List, [], ◌∷◌}
 use Rattle.std.specs.Float.{binary32}
 use Rattle.std.specs.Float.Ieee.{of_bits}
+use Rattle.std.specs.List.{list_all}
 use Rattle.emath.specs.declared.Pos2.{Pos2}
 use Rattle.input.specs.declared.Event.TheVariants.{AccessKitFocus}
 use Rattle.input.specs.FocusDirection.{previous}
@@ -11,7 +12,7 @@ use Rattle.memory_rules.specs.declared.Memory.{Memory}
 use Rattle.memory_rules.specs.State.{new_memory}
 use Rattle.memory_rules.specs.Calls.{Call, Begin, Interest, End, RequestFocus, RequestFocusNextFrame, IgnoreFocus, MoveFocus, SetModalLayer, done_by}
 use Rattle.confirm_box.specs.KeptOut.{is_focused, waits, was_last, is_cached, kept_out, lets_in, may_focus, run, none_is}
-use Rattle.confirm_box.specs.Modal.{in_force, is_set, keeps_under}
+use Rattle.confirm_box.specs.Modal.{in_force, is_set, set_in_every_pass, asks_from_below, keeps_under}
 use Rattle.confirm_box.specs.Instance.{page, box}
 
 -- from a new memory: calls, and more calls after them
@@ -59,7 +60,7 @@ three = on_page 12 ∷ RequestFocus 12 ∷ RequestFocusNextFrame 12 ∷ []
 abbrev pub lets_it_in : Call → Bool
 lets_it_in call = lets_in 12 new_memory call && not (kept_out (done_by call new_memory).memory 12)
 
--- ---- what a program keeps to while a box of Order 2 is open: in each case one clause alone says that the calls do not keep to it, and they let 12 in, which was kept out
+-- ---- what a program keeps to while a box of Order 2 is open: in each case the calls do not keep to it, for one reason, in short or at length, and they let 12 in, which was kept out
 abbrev pub used : List Candidate
 used = []
 
@@ -73,29 +74,38 @@ layer_of order = record { order = order; id = 8 }
 abbrev pub set_box : Call
 set_box = SetModalLayer box.layer
 
+-- the box's layer is in force
+abbrev pub in_force_first : List Call
+in_force_first = set_box ∷ End used ∷ []
+
 abbrev pub clauses : List Case
 clauses =
-    -- requests
-    then [] (RequestFocus 12 ∷ [])
-    ∷ then [] (RequestFocusNextFrame 12 ∷ [])
-    -- an interest call before the layer is in force, and with a layer of its own Order
-    ∷ then [] (set_box ∷ on_page 12 ∷ [])
-    ∷ then [] (set_box ∷ End used ∷ Interest 12 (layer_of 2) ∷ [])
-    -- the layer set by a refused call, or a lower one set
-    ∷ then [] (SetModalLayer (layer_of 7) ∷ End used ∷ on_page 12 ∷ [])
-    ∷ then [] (SetModalLayer (layer_of 1) ∷ End used ∷ on_page 12 ∷ [])
-    -- the layer not set again, and the pass not ended
+    -- requests, and an interest call with a layer of the box's own Order
+    then in_force_first (RequestFocus 12 ∷ [])
+    ∷ then in_force_first (RequestFocusNextFrame 12 ∷ [])
+    ∷ then in_force_first (Interest 12 (layer_of 2) ∷ [])
+    -- the layer not set again, set by a refused call, or a lower one set
+    ∷ then in_force_first (End used ∷ on_page 12 ∷ [])
     ∷ then [] (set_box ∷ End used ∷ End used ∷ on_page 12 ∷ [])
+    ∷ then in_force_first (SetModalLayer (layer_of 7) ∷ End used ∷ on_page 12 ∷ [])
+    ∷ then in_force_first (SetModalLayer (layer_of 1) ∷ End used ∷ on_page 12 ∷ [])
+    -- an interest call before the layer is in force, also after an end that is refused
+    ∷ then [] (set_box ∷ on_page 12 ∷ [])
     ∷ then [] (set_box ∷ End bad_used ∷ on_page 12 ∷ [])
     -- a lower layer in force at the start, and one set
     ∷ then (SetModalLayer (layer_of 0) ∷ End used ∷ []) (on_page 12 ∷ [])
     ∷ then (SetModalLayer (layer_of 0) ∷ []) (End used ∷ on_page 12 ∷ [])
     ∷ []
 
+-- in short, and at length
+abbrev pub keeps_shortly : Memory → List Call → Bool
+keeps_shortly m calls = in_force 2 m && (set_in_every_pass 2 (is_set 2 m) m calls && list_all (asks_from_below 2 12) calls)
+
+abbrev pub keeps_at_length : Memory → List Call → Bool
+keeps_at_length m calls = keeps_under 2 12 (in_force 2 m) (is_set 2 m) m calls
+
 abbrev pub breaks : Case → Bool
-breaks c =
-    let m = first_of c in
-    kept_out m 12 && (not (keeps_under box.layer.order 12 (in_force box.layer.order m) (is_set box.layer.order m) m c.calls) && not (kept_out (last_of c) 12))
+breaks c = kept_out (first_of c) 12 && (not (keeps_shortly (first_of c) c.calls) && (not (keeps_at_length (first_of c) c.calls) && not (kept_out (last_of c) 12)))
 
 -- ---- after an ignore of 12: in each case one clause alone says that the calls may focus it, and they do
 abbrev pub ignored_cases : List Case

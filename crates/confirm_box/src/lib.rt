@@ -12,7 +12,7 @@ ghost use Rattle.memory_rules.specs.State.{nav_of};
 ghost use Rattle.memory_rules.specs.Memory.{is_below, is_allowed};
 ghost use Rattle.memory_rules.specs.Calls.{Call, Interest, IgnoreFocus, done_by};
 ghost use Rattle.confirm_box.specs.KeptOut.{is_focused, kept_out, lets_in, may_focus, run, none_is};
-ghost use Rattle.confirm_box.specs.Modal.{is_under, in_force, is_set, keeps_under};
+ghost use Rattle.confirm_box.specs.Modal.{is_under, in_force, is_set, set_in_every_pass, asks_from_below, keeps_under};
 ghost use Rattle.confirm_box.specs.Rule.{Box, Opens, Fits, Spread, Spreads, opening, spread, ignoring, all_held, cached_in, room, is_refused};
 ghost use Rattle.confirm_box.specs.Instance as Instance;
 ghost use Rattle.confirm_box.specs.Needed as Needed;
@@ -39,8 +39,16 @@ pub fn lower_order_is_below()
     ensures { (m : Memory) (layer : LayerId) (modal : LayerId) → ltb layer.order modal.order ≡ true → is_below m layer modal ≡ true }
 {}
 
-// While the box's modal layer is set in every pass, no event of any kind focuses a field that is kept out and lies on a lower layer: p is kept out after each call of a list that asks no focus for it and lets none of its
-// interest calls through, which need not be asked of layers of a lower Order than the box's. There is nothing to run.
+// While the box's modal layer is in force and is set in every pass, no event of any kind focuses a field that is kept out and of a lower Order: p is kept out after each call of a list in which only interest calls with
+// layers of a lower Order ask for it. There is nothing to run.
+pub fn box_set_in_every_pass_keeps_out()
+    ensures { (order : ℕ) (p : ℕ) (m : Memory) (calls : List Call) → kept_out m p ≡ true → in_force order m ≡ true →
+        set_in_every_pass order (is_set order m) m calls ≡ true → list_all (asks_from_below order p) calls ≡ true →
+        (n : ℕ) → (kept_out (run m (take n calls)) p ≡ true) × (is_focused (run m (take n calls)) p ≡ false) }
+{}
+
+// The same of any layer that is below the modal layer in force in the state that an interest call gets, and from before the box is in force: p is kept out after each call of a list that lets none of its interest calls
+// through, which need not be asked of layers of a lower Order in a pass after one in which the box's layer was set. There is nothing to run.
 pub fn box_keeps_out()
     ensures { (order : ℕ) (p : ℕ) (m : Memory) (calls : List Call) → kept_out m p ≡ true → keeps_under order p (in_force order m) (is_set order m) m calls ≡ true →
         (n : ℕ) → (kept_out (run m (take n calls)) p ≡ true) × (is_focused (run m (take n calls)) p ≡ false) }
@@ -82,13 +90,10 @@ pub fn ignored_is_not_focused()
         (n : ℕ) → is_focused (run (done_by (IgnoreFocus p) m).memory (take n calls)) p ≡ false }
 {}
 
-// What the rule and what comes after it ask for can be met: by a box of two fields over a page of two, one of them focused and the other waiting for the next begin, and two passes after it, with a Shift+Tab and a request of
-// a field under it; both fields of the page are kept out, and at the end the second field of the box is focused. There is nothing to run.
+// What the theorems ask for can be met: by a box of two fields over a page of two, one of them focused and the other waiting for the next begin, and two passes after it, with a Shift+Tab and a request of a field under it;
+// both fields of the page are kept out, and at the end the second field of the box is focused. There is nothing to run.
 pub fn premises_can_be_met()
-    ensures { Opens Instance.start Instance.box × Fits Instance.start Instance.box × Spreads Instance.start 11 Instance.spread
-        × (kept_out (run Instance.start (opening Instance.box)) 11 ≡ true) × (kept_out (run Instance.start (opening Instance.box)) 12 ≡ true)
-        × (keeps_under Instance.box.layer.order 11 (in_force Instance.box.layer.order Instance.start) true (run Instance.start (opening Instance.box)) Instance.calls ≡ true)
-        × (id_or_nothing (nav_of (run (run Instance.start (opening Instance.box)) Instance.calls)).focused ≡ Some 22) }
+    ensures { Instance.Met }
 {}
 
 // Each of the four parts is needed, and each of the three calls is an exception: in four cases one part alone says that a field is not kept out, and it is focused without one of the three calls; and each of the three lets a
