@@ -1,0 +1,5 @@
+pub mod Held
+pub mod Many
+pub mod Plain
+pub mod Rows
+pub mod Steps
