@@ -91,7 +91,7 @@ fn begin(s: &mut State, w: &mut Words) -> Answer {
             viewport_id: ViewportId::default(),
             events: events.map(|(i, e)| convert::event(e, i)).collect(),
         };
-        let live = ViewportIdSet::from([ViewportId::default()]);
+        let live = ViewportIdSet::from_iter([ViewportId::default()]);
         ok(s.memory.begin_pass(&input, &live))
     })
 }

@@ -38,10 +38,20 @@ pub fn direction(code: u64) -> FocusDirection {
     }
 }
 
-/// The key of a number: keys are numbered as declared, which is what a cast of the enum gives.
+/// The keys by their numbers: keys are numbered as declared, which is what a cast of the enum gives.
+const KEYS: [Key; Key::ALL.len()] = {
+    let mut keys = [Key::Tab; Key::ALL.len()];
+    let mut i = 0;
+    while i < keys.len() {
+        keys[Key::ALL[i] as usize] = Key::ALL[i];
+        i += 1;
+    }
+    keys
+};
+
+/// The key of a number. A key past the last is refused before.
 fn key(code: u64) -> Key {
-    let found = Key::ALL.iter().find(|&&key| key as u64 == code);
-    *found.expect("a key past the last is refused before")
+    KEYS[code as usize]
 }
 
 fn modifiers(bits: u64) -> Modifiers {

@@ -2,6 +2,7 @@
 //!
 //!     oracle             answers standard input
 //!     oracle falling     the same, with egui's maps walked from the largest id down: where that changes an answer, egui leaves it open
+//!     oracle panel       answers standard input as the pass program does
 //!     oracle hypot N     asks of N differences whether hypot gives the f32 nearest the root
 //!     oracle searches N SEED    what egui's directional search finds in N tables (oracle/search has the port's side)
 //!     oracle times       how long it takes
@@ -23,6 +24,8 @@ mod inserts;
 mod line;
 #[path = "../registry/pages.rs"]
 mod pages;
+mod panel;
+mod panel_forms;
 #[path = "../focus/pass.rs"]
 mod pass;
 #[path = "../stack/passes.rs"]
@@ -64,6 +67,7 @@ fn main() -> std::io::Result<()> {
             stand_ins::FALLING.store(true, Ordering::Relaxed);
             answer_all()
         }
+        ["panel"] => panel::answer_all(),
         ["hypot", count] => ask_hypot(number(count)),
         ["searches", count, seed] => searches::answers(number(count), number(seed)),
         ["times"] => {
@@ -82,7 +86,7 @@ fn main() -> std::io::Result<()> {
             focuses::times();
             Ok(())
         }
-        _ => panic!("usage: oracle [falling | hypot N | searches N SEED | times | inserts | passes | focuses]"),
+        _ => panic!("usage: oracle [falling | panel | hypot N | searches N SEED | times | inserts | passes | focuses]"),
     }
 }
 

@@ -120,11 +120,17 @@ pub mod ahash {
         }
     }
 
+    #[cfg(not(hashed))]
     pub type HashSet<K> = std::collections::BTreeSet<K>;
+    #[cfg(hashed)]
+    pub type HashSet<K> =
+        std::collections::HashSet<K, std::hash::BuildHasherDefault<QuickHasher>>;
 }
 
-pub type ViewportIdMap<V> = HashMap<ViewportId, V>;
-pub type ViewportIdSet = std::collections::HashSet<ViewportId>;
+/// Of one viewport: as egui has them, with an id that is its own hash.
+pub type ViewportIdMap<V> = HashMap<ViewportId, V, std::hash::BuildHasherDefault<IdHasher>>;
+pub type ViewportIdSet =
+    std::collections::HashSet<ViewportId, std::hash::BuildHasherDefault<IdHasher>>;
 
 #[derive(Clone, Copy, Debug, Default, Hash, Eq, PartialEq)]
 pub struct ViewportId(pub u64);
