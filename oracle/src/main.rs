@@ -13,6 +13,10 @@
 extern crate alloc;
 
 mod answers;
+/// The pass program of both sides, in the builds of tools/panel.
+#[cfg(beside)]
+#[path = "../panel/main.rs"]
+mod beside;
 #[path = "../search/clock.rs"]
 mod clock;
 mod convert;
@@ -61,7 +65,14 @@ use std::sync::atomic::Ordering;
 fn main() -> std::io::Result<()> {
     let args: Vec<String> = std::env::args().skip(1).collect();
     let words: Vec<&str> = args.iter().map(String::as_str).collect();
-    match words[..] {
+    #[cfg(beside)]
+    return beside::run(&words);
+    #[cfg(not(beside))]
+    run(&words)
+}
+
+fn run(words: &[&str]) -> std::io::Result<()> {
+    match *words {
         [] => answer_all(),
         ["falling"] => {
             stand_ins::FALLING.store(true, Ordering::Relaxed);

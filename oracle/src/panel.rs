@@ -58,20 +58,42 @@ pub fn answers(session: &[u8], out: &mut Vec<u8>) {
     }
 }
 
+/// The lines of the refusals, each at its number.
+const NO: [&[u8]; 11] = [
+    b"", b"no 1\n", b"no 2\n", b"no 3\n", b"no 4\n", b"no 5\n", b"no 6\n", b"no 7\n", b"no 8\n",
+    b"no 9\n", b"no 10\n",
+];
+
 fn put(answered: Answered, out: &mut Vec<u8>) {
     match answered {
         Ok(Answer::Done) => out.extend_from_slice(b"ok\n"),
         Ok(Answer::Nothing) => out.extend_from_slice(b"none\n"),
-        Ok(Answer::Id(id)) => put_words(format_args!("id {}", id.value()), out),
+        Ok(Answer::Id(id)) => put_numbers(b"id", &[id.value()], out),
         Ok(Answer::Layer(LayerId { order, id })) => {
-            put_words(format_args!("layer {} {}", order as u64, id.value()), out);
+            put_numbers(b"layer", &[order as u64, id.value()], out);
         }
-        Err(number) => put_words(format_args!("no {number}"), out),
+        Err(number) => out.extend_from_slice(NO[number as usize]),
     }
 }
 
-fn put_words(words: std::fmt::Arguments, out: &mut Vec<u8>) {
-    writeln!(out, "{words}").expect("a vector takes what is written");
+/// A word, and numbers with a space before each. By hand, since `write!` takes several times as long.
+fn put_numbers(word: &[u8], numbers: &[u64], out: &mut Vec<u8>) {
+    out.extend_from_slice(word);
+    for &number in numbers {
+        let mut room = [b' '; 21];
+        let mut first = room.len();
+        let mut rest = number;
+        loop {
+            first -= 1;
+            room[first] = b'0' + (rest % 10) as u8;
+            rest /= 10;
+            if rest == 0 {
+                break;
+            }
+        }
+        out.extend_from_slice(&room[first - 1..]);
+    }
+    out.push(b'\n');
 }
 
 fn unless(refusal: Refusal) -> Result<(), u64> {
@@ -233,7 +255,9 @@ impl Panel {
         let too_long = refusals::USED < entries.len();
         unless(when(refusals::LIST, too_long))?;
         let each = entries.iter();
-        unless(lowest(each.map(|&(id, rect)| refusals::id(id).or(rect_refusal(rect)))))?;
+        unless(lowest(
+            each.map(|&(id, rect)| refusals::id(id).or(rect_refusal(rect))),
+        ))?;
         self.used.clear();
         self.used.extend(entries.iter().map(used_entry));
         // An id that stands twice has taken one place. 5 is above all that an entry is refused by, so it comes last.

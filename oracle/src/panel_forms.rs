@@ -77,11 +77,14 @@ impl Reader<'_> {
         let end = self.rest.iter().position(|b| !b.is_ascii_digit());
         let (digits, rest) = self.rest.split_at(end.unwrap_or(self.rest.len()));
         self.rest = rest;
+        let worth = |digit: &u8| u64::from(digit - b'0');
         match digits {
             [] | [b'0', _, ..] => None,
-            _ => digits.iter().try_fold(0_u64, |n, digit| {
-                n.checked_mul(10)?.checked_add(u64::from(digit - b'0'))
-            }),
+            // So few digits fit in any case.
+            _ if digits.len() < 20 => Some(digits.iter().fold(0, |n, d| 10 * n + worth(d))),
+            _ => digits
+                .iter()
+                .try_fold(0_u64, |n, d| n.checked_mul(10)?.checked_add(worth(d))),
         }
     }
 

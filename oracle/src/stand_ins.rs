@@ -123,8 +123,7 @@ pub mod ahash {
     #[cfg(not(hashed))]
     pub type HashSet<K> = std::collections::BTreeSet<K>;
     #[cfg(hashed)]
-    pub type HashSet<K> =
-        std::collections::HashSet<K, std::hash::BuildHasherDefault<QuickHasher>>;
+    pub type HashSet<K> = std::collections::HashSet<K, std::hash::BuildHasherDefault<QuickHasher>>;
 }
 
 /// Of one viewport: as egui has them, with an id that is its own hash.
