@@ -1,4 +1,4 @@
-//! Makes a session on which the sides differ as short as it goes: whole lines first, then bytes.
+//! Makes a session on which the sides differ as short as it goes: whole lines first, then entries of lists, then bytes.
 use std::time::{Duration, Instant};
 
 /// However long a session is, what is left after so long is shown.
@@ -10,16 +10,24 @@ pub fn shrink(session: Vec<u8>, differs: impl Fn(&[u8]) -> bool) -> Vec<u8> {
     let mut least = session;
     loop {
         let before = least.len();
-        least = fewer(
-            least,
-            |s| s.split_inclusive(|&b| b == b'\n').collect(),
-            &still,
-        );
+        least = fewer(least, lines, &still);
+        least = fewer(least, entries, &still);
         least = fewer(least, |s| s.chunks(1).collect(), &still);
         if least.len() == before {
             return least;
         }
     }
+}
+
+fn lines(session: &[u8]) -> Vec<&[u8]> {
+    session.split_inclusive(|&b| b == b'\n').collect()
+}
+
+/// Cut before each entry and behind it.
+fn entries(session: &[u8]) -> Vec<&[u8]> {
+    session
+        .chunk_by(|&a, &b| (a, b) != (b')', b' ') && (a, b) != (b')', b')'))
+        .collect()
 }
 
 /// Drops runs of parts while the difference stays, long runs first.
