@@ -1,0 +1,6 @@
+pub mod Calls
+pub mod Filling
+pub mod Forms
+pub mod Lines
+pub mod Printing
+pub mod Running
