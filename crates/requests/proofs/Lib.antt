@@ -1,4 +1,5 @@
 pub mod Held
+pub mod Letters
 pub mod Many
 pub mod Plain
 pub mod Rows

@@ -22,6 +22,7 @@ use Rattle.forms.specs.declared.Place.{Place}
 use Rattle.requests.specs.declared.Request.{Request}
 use Rattle.requests.specs.declared.Request.TheVariants as asks
 use Rattle.requests.specs.declared.Lists.{Lists}
+use Rattle.forms.specs.Read.{◌>>=◌, after}
 use Rattle.forms.specs.Form.{Form, Begin, Want, Area, Top, Sub, Modal, End, Hit, Focus, flag}
 
 -- ---- coordinates: 32nds of a point, up to 524,288. Any more stand for 65,536 points, past every bound of the table of refusals, so that a call refuses them as it refuses a number past its bounds
@@ -94,6 +95,10 @@ Holds lists f = Unit {0}
 abbrev pub Puts : {A : Type 0} → (List A → Type 0) → Option (List ℕ) → Option (List A × List ℕ) → Type 0
 Puts Held given (Some r) = (given ≡ Some r.1) × Held r.0
 Puts Held given None = given ≡ None
+
+-- a word, and what a reader reads behind it
+abbrev pub behind : List ℕ → List ℕ → (List ℕ → Option (Form × List ℕ)) → Option (Form × List ℕ)
+behind s word reader = after s word >>= reader
 
 -- what a reader of forms gives and what the lists then hold, by the form that is read
 abbrev pub Reads : Option (Request × List ℕ) → Lists → Option (Form × List ℕ) → Type 0

@@ -1,7 +1,7 @@
-// A form without its closing bracket: what it asks, and the bytes after it.
-ghost use Rattle.std.specs.Prelude.{◌≡◌};
-ghost use Rattle.forms.specs.Read.{seen, want_in, area_in, top_in, sub_in, modal_in, hit_in, plain_in, begin_in, end_in, form_in};
-ghost use Rattle.requests.specs.Asked.{Reads, ReadsPlain};
+// A form without its closing bracket: what it asks, and the bytes after it. None where it does not stand there.
+ghost use Rattle.std.specs.Prelude.{◌≡◌, codes};
+ghost use Rattle.forms.specs.Read.{seen, want_in, area_in, top_in, sub_in, modal_in, hit_in, focus_in, begin_in, end_in, form_in};
+ghost use Rattle.requests.specs.Asked.{behind, Reads, ReadsPlain};
 
 use crate::points::{area_state, pos};
 use crate::{Lists, Request, entries};
@@ -10,8 +10,9 @@ use layers::LayerId;
 
 #[tactic(auto, unfolding(forms::specs::Read::want_in))]
 fn want(s: &[u8]) -> Option<(Request, &[u8])>
-    ensures { ReadsPlain (seen result) (want_in s.now) }
+    ensures { ReadsPlain (seen result) (behind s.now (codes "(want") want_in) }
 {
+    let s = after(s, b"(want")?;
     let (layer, s) = layer(s)?;
     let (id, s) = argument(s)?;
     Some((Request::Want(layer, id), s))
@@ -19,8 +20,9 @@ fn want(s: &[u8]) -> Option<(Request, &[u8])>
 
 #[tactic(auto, unfolding(forms::specs::Read::area_in))]
 fn area(s: &[u8]) -> Option<(Request, &[u8])>
-    ensures { ReadsPlain (seen result) (area_in s.now) }
+    ensures { ReadsPlain (seen result) (behind s.now (codes "(area") area_in) }
 {
+    let s = after(s, b"(area")?;
     let (layer, s) = layer(s)?;
     let (at, s) = spot(s)?;
     let (size, s) = spot(s)?;
@@ -29,8 +31,9 @@ fn area(s: &[u8]) -> Option<(Request, &[u8])>
 
 #[tactic(auto, unfolding(forms::specs::Read::top_in))]
 fn top(s: &[u8]) -> Option<(Request, &[u8])>
-    ensures { ReadsPlain (seen result) (top_in s.now) }
+    ensures { ReadsPlain (seen result) (behind s.now (codes "(top") top_in) }
 {
+    let s = after(s, b"(top")?;
     let (layer, s) = layer(s)?;
     Some((Request::Top(layer), s))
 }
@@ -38,8 +41,9 @@ fn top(s: &[u8]) -> Option<(Request, &[u8])>
 // Parent and child are of one Order.
 #[tactic(auto, unfolding(forms::specs::Read::sub_in))]
 fn sub(s: &[u8]) -> Option<(Request, &[u8])>
-    ensures { ReadsPlain (seen result) (sub_in s.now) }
+    ensures { ReadsPlain (seen result) (behind s.now (codes "(sub") sub_in) }
 {
+    let s = after(s, b"(sub")?;
     let (parent, s) = layer(s)?;
     let (id, s) = argument(s)?;
     let child = LayerId {
@@ -51,71 +55,61 @@ fn sub(s: &[u8]) -> Option<(Request, &[u8])>
 
 #[tactic(auto, unfolding(forms::specs::Read::modal_in))]
 fn modal(s: &[u8]) -> Option<(Request, &[u8])>
-    ensures { ReadsPlain (seen result) (modal_in s.now) }
+    ensures { ReadsPlain (seen result) (behind s.now (codes "(modal") modal_in) }
 {
+    let s = after(s, b"(modal")?;
     let (layer, s) = layer(s)?;
     Some((Request::Modal(layer), s))
 }
 
 #[tactic(auto, unfolding(forms::specs::Read::hit_in))]
 fn hit(s: &[u8]) -> Option<(Request, &[u8])>
-    ensures { ReadsPlain (seen result) (hit_in s.now) }
+    ensures { ReadsPlain (seen result) (behind s.now (codes "(hit") hit_in) }
 {
+    let s = after(s, b"(hit")?;
     let (at, s) = spot(s)?;
     Some((Request::Hit(pos(at)), s))
 }
 
-// The forms that carry no list.
-#[tactic(auto, unfolding(forms::specs::Read::plain_in))]
-fn plain(s: &[u8]) -> Option<(Request, &[u8])>
-    ensures { ReadsPlain (seen result) (plain_in s.now) }
-{
-    if let Some(s) = after(s, b"(want") {
-        return want(s);
-    }
-    if let Some(s) = after(s, b"(area") {
-        return area(s);
-    }
-    if let Some(s) = after(s, b"(top") {
-        return top(s);
-    }
-    if let Some(s) = after(s, b"(sub") {
-        return sub(s);
-    }
-    if let Some(s) = after(s, b"(modal") {
-        return modal(s);
-    }
-    if let Some(s) = after(s, b"(hit") {
-        return hit(s);
-    }
-    Some((Request::Focus, after(s, b"(focus")?))
-}
-
 #[tactic(auto, unfolding(forms::specs::Read::begin_in))]
 fn begin<'a>(s: &'a [u8], lists: &mut Lists) -> Option<(Request, &'a [u8])>
-    ensures { Reads (seen result) lists.new (begin_in s.now) }
+    ensures { Reads (seen result) lists.new (behind s.now (codes "(begin") begin_in) }
 {
+    let s = after(s, b"(begin")?;
     let rest = entries::entries(s, &mut lists.events)?;
     Some((Request::Begin, rest))
 }
 
 #[tactic(auto, unfolding(forms::specs::Read::end_in))]
 fn end<'a>(s: &'a [u8], lists: &mut Lists) -> Option<(Request, &'a [u8])>
-    ensures { Reads (seen result) lists.new (end_in s.now) }
+    ensures { Reads (seen result) lists.new (behind s.now (codes "(end") end_in) }
 {
+    let s = after(s, b"(end")?;
     let rest = entries::places(s, &mut lists.used)?;
     Some((Request::End, rest))
 }
 
-#[tactic(auto, unfolding(forms::specs::Read::form_in), using(crate::proofs::Plain::plain_reads))]
+fn focus(s: &[u8]) -> Option<(Request, &[u8])>
+    ensures { ReadsPlain (seen result) (behind s.now (codes "(focus") focus_in) }
+{
+    let s = after(s, b"(focus")?;
+    Some((Request::Focus, s))
+}
+
+// No two words have one first letter.
 pub(crate) fn form<'a>(s: &'a [u8], lists: &mut Lists) -> Option<(Request, &'a [u8])>
     ensures { Reads (seen result) lists.new (form_in s.now) }
 {
-    if let Some(s) = after(s, b"(begin") {
-        return begin(s, lists);
+    match text::byte(s, 1) {
+        b'b' => begin(s, lists),
+        b'w' => want(s),
+        b'a' => area(s),
+        b't' => top(s),
+        b's' => sub(s),
+        b'm' => modal(s),
+        b'e' => end(s, lists),
+        b'h' => hit(s),
+        b'f' => focus(s),
+        _ => None,
     }
-    if let Some(s) = after(s, b"(end") {
-        return end(s, lists);
-    }
-    plain(s)
 }

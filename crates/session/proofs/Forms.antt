@@ -7,7 +7,7 @@ use Rattle.forms.specs.Form.{Form, Begin, Want, Area, Top, Sub, Modal, End, Hit,
 use Rattle.requests.specs.declared.Request.{Request}
 use Rattle.requests.specs.declared.Lists.{Lists}
 use Rattle.requests.specs.Asked.{event_of, candidate_of, request_of, Holds}
-use Rattle.session.specs.declared.runner.Answer.TheVariants.{No}
+use Rattle.session.specs.declared.runner.Answer.TheVariants.{NoForm}
 use Rattle.session.specs.Session.{Step, step, step_by}
 use Rattle.session.specs.Runs.{Leaves}
 
@@ -27,6 +27,6 @@ pub asked : (read : Option Form) (request : Request) (lists : Lists) (m : Memory
 asked (Some f) request lists m s e h l = by_form f lists m s h (let q : request ≡ request_of f = cc in subst (λ (r : Request). Leaves r lists m s) q l)
 asked None request lists m s e h l = absurd cc
 
-pub not_asked : (read : Option Form) (m : Memory) → None ≡ option_map request_of read → ◌≡◌ {A = Step} (record { memory = m; answer = No 10 }) (step_by m read)
+pub not_asked : (read : Option Form) (m : Memory) → None ≡ option_map request_of read → ◌≡◌ {A = Step} (record { memory = m; answer = NoForm }) (step_by m read)
 not_asked (Some f) m e = absurd cc
 not_asked None m e = refl

@@ -12,7 +12,7 @@ use Rattle.memory_rules.specs.declared.Memory.{Memory}
 use Rattle.memory_rules.specs.State.{new_memory}
 use Rattle.forms.specs.Read.{form_of}
 use Rattle.session.specs.declared.runner.Answer.{Answer}
-use Rattle.session.specs.declared.runner.Answer.TheVariants.{Ok, No, Layer, Id, None}
+use Rattle.session.specs.declared.runner.Answer.TheVariants.{Ok, NoForm, No, Layer, Id, None}
 use Rattle.session.specs.Session.{Step, step_by, lines_of, answers_from, answers_to}
 use Rattle.session.specs.Output.{line_of, lines_of_answers, said, number, output_of, fitting, filled_by}
 use Rattle.session.specs.Runs.{Cuts}
@@ -32,6 +32,7 @@ two_numbers m n = omega (arith, ap length (flat_map-cons number m (n ∷ [])), l
 
 pub line_short : (a : Answer) → length (line_of a) ≤ 48
 line_short Ok = omega (arith, said_length (codes "ok") [])
+line_short NoForm = omega (arith, said_length (codes "no") (10 ∷ []), one_number 10)
 line_short (No n) = omega (arith, said_length (codes "no") (n ∷ []), one_number n)
 line_short (Layer l) = omega (arith, said_length (codes "layer") (l.order ∷ l.id ∷ []), two_numbers l.order l.id)
 line_short (Id id) = omega (arith, said_length (codes "id") (id ∷ []), one_number id)

@@ -4,7 +4,7 @@ use Rattle.std.specs.List.{flat_map}
 use Rattle.text.specs.Put.{decimal_of}
 use Rattle.tables.specs.Tables.{written_on}
 use Rattle.session.specs.declared.runner.Answer.{Answer}
-use Rattle.session.specs.declared.runner.Answer.TheVariants.{Ok, No, Layer, Id, None}
+use Rattle.session.specs.declared.runner.Answer.TheVariants.{Ok, NoForm, No, Layer, Id, None}
 use Rattle.session.specs.Session.{answers_to}
 
 -- a word, so many numbers, each with a space before it, and the end of the line
@@ -14,8 +14,13 @@ number n = codes " " ++ decimal_of n
 unfoldable pub said : List ℕ → List ℕ → List ℕ
 said word numbers = word ++ (flat_map number numbers ++ codes "\n")
 
+-- the number of a line that is no form
+abbrev pub no_form : ℕ
+no_form = 10
+
 abbrev pub line_of : Answer → List ℕ
 line_of Ok = said (codes "ok") []
+line_of NoForm = said (codes "no") (no_form ∷ [])
 line_of (No n) = said (codes "no") (n ∷ [])
 line_of (Layer l) = said (codes "layer") (l.order ∷ l.id ∷ [])
 line_of (Id id) = said (codes "id") (id ∷ [])

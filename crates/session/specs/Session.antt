@@ -55,12 +55,9 @@ step m (Hit at) = asks m (hit_answer m (pos_of at))
 step m Focus = asks m (focus_answer m)
 
 -- a line that is no form changes nothing
-abbrev pub no_form : ℕ
-no_form = 10
-
 abbrev pub step_by : Memory → Option Form → Step
 step_by m (Some f) = step m f
-step_by m None = asks m (answers.No no_form)
+step_by m None = asks m answers.NoForm
 
 -- ---- the lines: byte 10 ends one, and the end of the input too
 abbrev pub onto : ℕ → List (List ℕ) → List (List ℕ)

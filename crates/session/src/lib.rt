@@ -17,9 +17,6 @@ use requests::Lists;
 // A longer session is answered by a refusal alone.
 pub const LONGEST: usize = 65536;
 
-// The refusal of a line that is no form.
-const NO_FORM: u64 = 10;
-
 // The first line without its end, and the bytes after that: byte 10, or the end of the input, ends a line.
 fn cut(s: &[u8]) -> (&[u8], &[u8])
     ensures { 0 < length s.now → Cuts s.now result.0.now result.1.now }
@@ -35,7 +32,7 @@ fn answer(line: &[u8], lists: &mut Lists, m: &mut Memory) -> Answer
 {
     match requests::read(line, lists) {
         Some(request) => runner::answered(request, lists, m),
-        None => Answer::No(NO_FORM),
+        None => Answer::NoForm,
     }
 }
 

@@ -18,6 +18,7 @@ use requests::{Lists, Request};
 #[derive(Clone, Copy)]
 pub enum Answer {
     Ok,
+    NoForm,
     No(u64),
     Layer(LayerId),
     Id(u64),
