@@ -1,3 +1,4 @@
+pub mod Bounds
 pub mod Held
 pub mod Letters
 pub mod Many

@@ -18,6 +18,8 @@ fn put_row<T: Copy>(rows: &mut [T], i: usize, row: [T; 4])
     }
 }
 
+// Both loops stay functions of their own: where LLVM puts them into the function that reads all forms, an entry takes a fifth more time.
+#[inline(never)]
 pub(crate) fn entries<'a>(s: &'a [u8], events: &mut Events) -> Option<&'a [u8]>
     ensures { Puts (λ es. HoldsEvents events.new (map event_of es)) (bytes_seen result) (many_in entry_in (length s.now) s.now) }
 {
@@ -35,6 +37,7 @@ pub(crate) fn entries<'a>(s: &'a [u8], events: &mut Events) -> Option<&'a [u8]>
     Some(rest)
 }
 
+#[inline(never)]
 pub(crate) fn places<'a>(s: &'a [u8], used: &mut Used) -> Option<&'a [u8]>
     ensures { Puts (λ ps. HoldsUsed used.new (map candidate_of ps)) (bytes_seen result) (many_in place_in (length s.now) s.now) }
 {

@@ -1,10 +1,14 @@
 // A line of a session, read as what it asks of the memory.
 #![tactic(auto)]
 
-ghost use Rattle.std.specs.Prelude.{◌≡◌, IfSome};
+ghost use Rattle.std.specs.Prelude.{◌≡◌, ◌<◌, cond, IfSome};
 ghost use Rattle.std.specs.Option.{option_map};
+ghost use Rattle.refusal.specs.Refusal.{off_grid, reversed};
+ghost use Rattle.floats.specs.Count.{at, signed, count_of};
+ghost use Rattle.grid.specs.Grid.{corner_refusal, pivot_refusal, side_refusal};
+ghost use Rattle.forms.specs.declared.Coordinate.{Coordinate};
 ghost use Rattle.forms.specs.Read.{form_of};
-ghost use Rattle.requests.specs.Asked.{request_of, Holds};
+ghost use Rattle.requests.specs.Asked.{bounded, points, request_of, Holds};
 
 mod entries;
 mod form;
@@ -68,3 +72,13 @@ pub fn read(line: &[u8], lists: &mut Lists) -> Option<Request>
     let rest = forms::parts::after(rest, b")")?;
     rest.is_empty().then_some(request)
 }
+
+// A coordinate is so many 32nds of a point, exactly; one that is past the bounds counts as 2,097,152 of them. There is nothing to run.
+pub fn coordinates_are_exact()
+    ensures { (c : Coordinate) → count_of 32 (points c) ≡ at (signed c.below (bounded c.steps)) }
+{}
+
+// More than 524,288 are refused as a corner and as a pivot position by 3, and as a side by 3 too, but below 0 by 4. There is nothing to run.
+pub fn past_is_refused()
+    ensures { (c : Coordinate) → 524288 < c.steps → (corner_refusal (points c) ≡ off_grid) × (pivot_refusal (points c) ≡ off_grid) × (side_refusal (points c) ≡ cond c.below reversed off_grid) }
+{}

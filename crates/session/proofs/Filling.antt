@@ -17,7 +17,7 @@ cases_le a b = elim (cases_lt b a) [
   | inr h ↦ inl h
 ]
 
-total_cons : (a : Answer) (told : List Answer) → length (lines_of_answers (a ∷ told)) ≡ length (line_of a) + length (lines_of_answers told)
+pub total_cons : (a : Answer) (told : List Answer) → length (lines_of_answers (a ∷ told)) ≡ length (line_of a) + length (lines_of_answers told)
 total_cons a told = ap length (flat_map-cons line_of a told) ∙ length-append (line_of a) (lines_of_answers told)
 
 -- where there is room for all of them, all are written

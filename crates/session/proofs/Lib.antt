@@ -1,5 +1,6 @@
 pub mod Calls
 pub mod Filling
+pub mod Fits
 pub mod Forms
 pub mod Lines
 pub mod Printing

@@ -20,11 +20,11 @@ use Rattle.session.proofs.Printing.{digits_few}
 use Rattle.session.proofs.Filling.{nothing_filled, one_filled}
 
 -- ---- no line is longer than 48 bytes
-said_length : (word numbers : List ℕ) → length (said word numbers) ≡ length word + (length (flat_map number numbers) + 1)
+pub said_length : (word numbers : List ℕ) → length (said word numbers) ≡ length word + (length (flat_map number numbers) + 1)
 unfolding said
 said_length word numbers = length-append word (flat_map number numbers ++ codes "\n") ∙ ap (λ (n : ℕ). length word + n) (length-append (flat_map number numbers) (codes "\n"))
 
-one_number : (n : ℕ) → length (flat_map number (n ∷ [])) ≤ 21
+pub one_number : (n : ℕ) → length (flat_map number (n ∷ [])) ≤ 21
 one_number n = omega (arith, ap length (flat_map-cons number n []), length-append (number n) [], digits_few 20 n)
 
 two_numbers : (m n : ℕ) → length (flat_map number (m ∷ n ∷ [])) ≤ 42

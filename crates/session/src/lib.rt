@@ -1,9 +1,9 @@
 // A session of the panel: from the bytes of its lines to the bytes of their answers, with a memory of its own.
 #![tactic(auto)]
 
-ghost use Rattle.std.specs.Prelude.{◌≡◌, ◌<◌, length};
+ghost use Rattle.std.specs.Prelude.{◌≡◌, ◌*◌, ◌<◌, ◌≤◌, List, ℕ, length};
 ghost use Rattle.forms.specs.Read.{form_of};
-ghost use Rattle.session.specs.Session.{step_by};
+ghost use Rattle.session.specs.Session.{longest, step_by};
 ghost use Rattle.session.specs.Runs.{Cuts};
 ghost use Rattle.session.specs.Output.{output_of, filled_by};
 
@@ -57,3 +57,8 @@ pub fn run(input: &[u8], out: &mut [u8]) -> usize
     }
     at
 }
+
+// The answers to any input fit into six bytes for each byte of the longest session, as many as its blank lines take. There is nothing to run.
+pub fn answers_fit()
+    ensures { (input : List ℕ) → length (output_of input) ≤ 6 * longest }
+{}
