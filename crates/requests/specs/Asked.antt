@@ -1,7 +1,7 @@
 -- What a form asks of the memory, from document 01, "The pass program". Definitions only.
-use Rattle.std.specs.Prelude.{◌≡◌, ℕ, ◌≤◌, Bool, true, false, cond, List, [], ◌∷◌, map, leb, length, Option, Some, None, Float}
+use Rattle.std.specs.Prelude.{◌≡◌, ℕ, ◌*◌, ◌≤◌, Bool, true, false, cond, List, [], ◌∷◌, map, leb, length, replicate, Option, Some, None, Float}
 use Rattle.std.specs.Float.{binary32}
-use Rattle.std.specs.Float.Ieee.{round}
+use Rattle.std.specs.Float.Ieee.{round, of_bits}
 use Rattle.emath.specs.declared.Pos2.{Pos2}
 use Rattle.emath.specs.declared.Rect.{Rect}
 use Rattle.area.specs.declared.AreaState.{AreaState}
@@ -76,6 +76,10 @@ request_of (Modal l) = asks.Modal l
 request_of (End places) = asks.End
 request_of (Hit at) = asks.Hit (pos_of at)
 request_of Focus = asks.Focus
+
+-- before the first line
+unfoldable pub no_lists : Lists
+no_lists = record { events = record { words = replicate (4 * most_events) 0; count = 0 }; used = record { ids = replicate most_used 0; corners = replicate (4 * most_used) (of_bits binary32 0); count = 0 } }
 
 -- of a list longer than its array only the length is held
 pub record HoldsEvents (held : Events) (events : List Event) : Type 0 where

@@ -8,7 +8,7 @@ ghost use Rattle.floats.specs.Count.{at, signed, count_of};
 ghost use Rattle.grid.specs.Grid.{corner_refusal, pivot_refusal, side_refusal};
 ghost use Rattle.forms.specs.declared.Coordinate.{Coordinate};
 ghost use Rattle.forms.specs.Read.{form_of};
-ghost use Rattle.requests.specs.Asked.{bounded, points, request_of, Holds};
+ghost use Rattle.requests.specs.Asked.{bounded, points, no_lists, request_of, Holds};
 
 mod entries;
 mod form;
@@ -41,7 +41,10 @@ pub struct Lists {
 }
 
 impl Lists {
-    pub fn new() -> Lists {
+    #[tactic(auto, unfolding(crate::specs::Asked::no_lists))]
+    pub fn new() -> Lists
+        ensures { result ≡ no_lists }
+    {
         Lists {
             events: Events {
                 words: [0; 4 * refusal::EVENTS],

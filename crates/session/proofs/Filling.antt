@@ -21,7 +21,7 @@ pub total_cons : (a : Answer) (told : List Answer) → length (lines_of_answers 
 total_cons a told = ap length (flat_map-cons line_of a told) ∙ length-append (line_of a) (lines_of_answers told)
 
 -- where there is room for all of them, all are written
-all_fit : (told : List Answer) (room : ℕ) → length (lines_of_answers told) ≤ room → fitting room told ≡ lines_of_answers told
+pub all_fit : (told : List Answer) (room : ℕ) → length (lines_of_answers told) ≤ room → fitting room told ≡ lines_of_answers told
 unfolding fitting
 all_fit [] room h = refl
 all_fit (a ∷ told) room h =

@@ -5,6 +5,7 @@ use Rattle.std.proofs.lemmas.List.Concat.{flat_map-cons}
 use Rattle.std.specs.Prelude.{codes}
 use Rattle.std.specs.List.{flat_map}
 use borrow.Author.Tests.{le-ltb, lt-ltb}
+use Rattle.tables.specs.Tables.{written_on}
 use Rattle.text.specs.Put.{decimal_in, decimal_of}
 use Rattle.emath.specs.declared.Pos2.{Pos2}
 use Rattle.layers.specs.declared.LayerId.{LayerId}
@@ -21,9 +22,9 @@ use Rattle.requests.specs.Asked.{event_of, state_of, child_of, candidate_of}
 use Rattle.session.specs.declared.runner.Answer.{Answer}
 use Rattle.session.specs.declared.runner.Answer.TheVariants as answers
 use Rattle.session.specs.Session.{answer_by, called, step, step_by, onto, lines_of, answers_from, answers_to}
-use Rattle.session.specs.Output.{line_of, lines_of_answers, said, output_of}
+use Rattle.session.specs.Output.{line_of, lines_of_answers, said, output_of, filled_by}
 use Rattle.session.proofs.Running.{said_length, one_number, line_short}
-use Rattle.session.proofs.Filling.{total_cons}
+use Rattle.session.proofs.Filling.{total_cons, all_fit}
 
 -- ---- the answer to a form: of a call and of `focus` one number, of a hit two
 one_number_short : (word : List ℕ) (n : ℕ) → length word ≤ 2 → length (said word (n ∷ [])) ≤ 24
@@ -111,10 +112,14 @@ answers_weigh m (line ∷ lines) =
     let s = step_by m (form_of line) in
     omega (arith, total_cons s.answer (answers_from s.memory lines), line_fits m line (form_of line) refl, answers_weigh s.memory lines)
 
-pub output_fits : (input : List ℕ) → length (output_of input) ≤ 6 * 65536
+output_fits : (input : List ℕ) → length (output_of input) ≤ 6 * 65536
 unfolding output_of answers_to
 output_fits input =
     elim (cases_lt 65536 (length input)) [
       | inl h ↦ rw (lt-ltb 65536 (length input) h) (omega (arith, total_cons (answers.No 5) [], called_short 5))
       | inr h ↦ rw (le-ltb 65536 (length input) h) (omega (arith, answers_weigh new_memory (lines_of input), lines_weigh input))
     ]
+
+pub all_written : (input out : List ℕ) → 6 * 65536 ≤ length out → (length (output_of input) ≤ 6 * 65536) × (filled_by input out ≡ written_on out (output_of input))
+unfolding filled_by output_of
+all_written input out h = (output_fits input, ap (written_on out) (all_fit (answers_to input) (length out) (omega (arith, h, output_fits input))))

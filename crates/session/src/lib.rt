@@ -2,6 +2,7 @@
 #![tactic(auto)]
 
 ghost use Rattle.std.specs.Prelude.{◌≡◌, ◌*◌, ◌<◌, ◌≤◌, List, ℕ, length};
+ghost use Rattle.tables.specs.Tables.{written_on};
 ghost use Rattle.forms.specs.Read.{form_of};
 ghost use Rattle.session.specs.Session.{longest, step_by};
 ghost use Rattle.session.specs.Runs.{Cuts};
@@ -58,7 +59,7 @@ pub fn run(input: &[u8], out: &mut [u8]) -> usize
     at
 }
 
-// The answers to any input fit into six bytes for each byte of the longest session, as many as its blank lines take. There is nothing to run.
-pub fn answers_fit()
-    ensures { (input : List ℕ) → length (output_of input) ≤ 6 * longest }
+// A buffer of six bytes for each byte of the longest session, as many as its blank lines take, gets all answers to any input. There is nothing to run.
+pub fn all_answers_fit()
+    ensures { (input out : List ℕ) → 6 * longest ≤ length out → (length (output_of input) ≤ 6 * longest) × (filled_by input out ≡ written_on out (output_of input)) }
 {}
