@@ -1,5 +1,6 @@
 -- The grammar's two laws: what a line is read as, it is written as, and what is written is read. Assumes nothing.
 use Rattle.std.proofs.Common.{◌≡◌, ℕ, ◌≤◌, true, false, ltb, List, [], ◌∷◌, ◌++◌, length, Some, codes, refl, sym, ap, subst, ◌∙◌, append_assoc, le-ltb}
+use Rattle.std.proofs.lemmas.Bool.{ltb-false}
 use Rattle.std.specs.List.{flat_map, AllByRecursion}
 use Rattle.text.specs.Read.{opens, word_at}
 use Rattle.layers.specs.declared.LayerId.{LayerId}
@@ -121,7 +122,7 @@ ended : (f g : Form) (s : List ℕ) → nothing_left f s ≡ Some g → (s ≡ [
 ended f g [] e = (refl, some_is f g e)
 ended f g (b ∷ s) e = absurd cc
 
-pub form_takes : (line : List ℕ) (f : Form) → form_of line ≡ Some f → (line ≡ written f) × IsForm f
+pub form_takes : (line : List ℕ) (f : Form) → form_of line ≡ Some f → (line ≡ written f) × IsForm f × (length line ≤ longest_line)
 unfolding form_of
 form_takes line f e =
     let a = cond_none (ltb longest_line (length line)) (form_in line >>= λ x. after x.1 (codes ")") >>= λ rest. nothing_left x.0 rest) f e in
@@ -130,7 +131,8 @@ form_takes line f e =
     let d = form_in_takes.law line b.0.0 b.0.1 b.1 in
     let n = ended b.0.0 f c.0 c.2 in
     let bracket : b.0.1 ≡ codes ")" = after_takes b.0.1 (codes ")") c.0 c.1 ∙ ap (λ (r : List ℕ). codes ")" ++ r) n.0 in
-    subst (λ (x : Form). (line ≡ written x) × IsForm x) n.1 (d.0 ∙ ap (λ (r : List ℕ). opened b.0.0 ++ r) bracket ∙ sym (written_is b.0.0), d.1)
+    let w = subst (λ (x : Form). (line ≡ written x) × IsForm x) n.1 (d.0 ∙ ap (λ (r : List ℕ). opened b.0.0 ++ r) bracket ∙ sym (written_is b.0.0), d.1) in
+    (w.0, w.1, ltb-false longest_line (length line) a.0)
 
 pub form_again : (f : Form) → IsForm f → length (written f) ≤ longest_line → form_of (written f) ≡ Some f
 unfolding form_of after word_at opens

@@ -14,6 +14,7 @@ pub struct Coordinate {
     pub steps: u64,
 }
 
+// A position, or a width and a height.
 #[derive(Clone, Copy)]
 pub struct Spot {
     pub x: Coordinate,
@@ -35,8 +36,8 @@ pub struct Place {
     pub max: Spot,
 }
 
-// What a line is read as, it is written as; and what is written, in a line that is not too long, is read as that. So there is one way to write a form, and no two forms are written alike. There is nothing to run.
+// A line is read as a form exactly if it is that form as it is written, of numbers that can be, and not too long. So there is one way to write a form, and no line is two. There is nothing to run.
 pub fn one_form_a_line()
-    ensures { ((line : List ℕ) (f : Form) → form_of line ≡ Some f → (line ≡ written f) × IsForm f)
+    ensures { ((line : List ℕ) (f : Form) → form_of line ≡ Some f → (line ≡ written f) × IsForm f × (length line ≤ longest_line))
         × ((f : Form) → IsForm f → length (written f) ≤ longest_line → form_of (written f) ≡ Some f) }
 {}

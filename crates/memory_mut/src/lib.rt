@@ -1,5 +1,5 @@
-// `Memory` of memory/mod.rs by `&mut`, as egui has it: the calls that a session makes. Each lends the record's own tables to the call in place of its name, so that no table is copied, and puts
-// the fields back. A call that is refused changes nothing.
+// `Memory` of memory/mod.rs by `&mut`, as egui has it: the calls that a session makes. Each passes the record's own tables on to the function that works on lent tables, so that none is copied, and a call that
+// changes the memory puts the fields back. One that is refused changes nothing.
 #![tactic(auto)]
 
 ghost use Rattle.std.specs.Prelude.{◌≡◌};

@@ -1,5 +1,5 @@
 -- Coordinates on the grid, and past its bounds. Assumes nothing.
-use Rattle.std.proofs.Common.{◌≡◌, ℕ, ◌*◌, ◌^◌, ◌<◌, ◌≤◌, Bool, true, false, cond, leb, refl, sym, ap, subst, ◌∙◌, lit<, lit≤, arith}
+use Rattle.std.proofs.Common.{◌≡◌, ℕ, ◌<◌, ◌≤◌, Bool, true, false, cond, leb, refl, lit≤, arith}
 use borrow.Author.Tests.{leb-true, lt-leb}
 use lib.Ieee.{binary32, round}
 use Rattle.refusal.specs.Refusal.{off_grid, reversed}

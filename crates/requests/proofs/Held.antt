@@ -1,12 +1,11 @@
 -- What the arrays hold after the entries that were put into them, row by row. Assumes nothing.
-use Rattle.std.proofs.Common.{◌≡◌, ℕ, zero, suc, ◌+◌, ◌*◌, ◌<◌, ◌≤◌, true, false, List, [], ◌∷◌, ◌++◌, length, get_or, set, take, drop, map, refl, sym, ap, ◌∙◌, arith, length-append, append_assoc}
+use Rattle.std.proofs.Common.{◌≡◌, ℕ, suc, ◌+◌, ◌*◌, ◌<◌, ◌≤◌, true, false, List, [], ◌∷◌, ◌++◌, length, get_or, set, drop, map, refl, sym, ap, ◌∙◌, arith, length-append, append_assoc}
 use Rattle.std.specs.Float.{nan}
 use Rattle.std.specs.List.{flat_map}
 use Rattle.std.proofs.lemmas.List.{length-map, map-append}
 use Rattle.std.proofs.lemmas.List.Concat.{flat_map-cons}
 use lib.Ieee.{Float}
 use lib.Seq.{take-nil, take-append_seam}
-use Rattle.emath.specs.declared.Rect.{Rect}
 use Rattle.tables.specs.Tables.{put_at, written_on}
 use Rattle.tables.proofs.Written.{written_fits, one_more_lem}
 use Rattle.focus_pass.specs.Events.{missing, event_at, events_from}
@@ -17,7 +16,7 @@ use Rattle.focus.specs.declared.Used.{Used}
 use Rattle.forms.specs.declared.Entry.{Entry}
 use Rattle.forms.specs.declared.Entry.TheVariants.{Key, Ask}
 use Rattle.forms.specs.declared.Place.{Place}
-use Rattle.requests.specs.Asked.{rect_of, candidate_of, event_of, words_of, corners_of, HoldsEvents, HoldsUsed}
+use Rattle.requests.specs.Asked.{rect_of, candidate_of, event_of, words_of, corners_of, HoldsEvents, HoldsUsed, events_with, used_with}
 use Rattle.requests.proofs.Rows.{row_get, rows_length, put_more}
 
 words_four : (e : Entry) → length (words_of e) ≡ 4
@@ -43,6 +42,9 @@ module _ {A : Type 0} where
 pub record EventsPut (before now : Events) (es : List Entry) : Type 0 where
   pub count : now.count ≡ length es
   pub words : now.words ≡ written_on before.words (flat_map words_of es)
+
+pub events_are : (before now : Events) (es list : List Entry) → es ≡ list → EventsPut before now es → now ≡ events_with before list
+events_are before now es list e put = (λ i. record { words = put.words i; count = put.count i }) ∙ ap (events_with before) e
 
 pub no_events : (e : Events) → EventsPut e (record { words = e.words; count = 0 }) []
 no_events e = record { count = refl; words = nothing_put e.words }
@@ -93,6 +95,9 @@ pub record UsedPut (before now : Used) (ps : List Place) : Type 0 where
   pub count : now.count ≡ length ps
   pub ids : now.ids ≡ written_on before.ids (ids_of ps)
   pub corners : now.corners ≡ written_on before.corners (flat_map corners_of ps)
+
+pub used_are : (before now : Used) (ps list : List Place) → ps ≡ list → UsedPut before now ps → now ≡ used_with before list
+used_are before now ps list e put = (λ i. record { ids = put.ids i; corners = put.corners i; count = put.count i }) ∙ ap (used_with before) e
 
 pub no_used : (u : Used) → UsedPut u (record { ids = u.ids; corners = u.corners; count = 0 }) []
 no_used u = record { count = refl; ids = nothing_put u.ids; corners = nothing_put u.corners }

@@ -1,8 +1,10 @@
 -- The form of a line by its second byte, the first letter of its word. Assumes nothing.
-use Rattle.std.proofs.Common.{◌≡◌, ℕ, ◌+◌, Bool, true, false, cond, eqb, ◌&&◌, List, [], ◌∷◌, ◌++◌, length, get_or, drop, Option, Some, None, refl, sym, ap, subst, ◌∙◌, codes}
+use Rattle.std.proofs.Common.{◌≡◌, ℕ, Bool, true, false, ◌&&◌, eqb, arith, List, [], ◌∷◌, get_or, Option, Some, None, refl, sym, ap, subst, ◌∙◌, codes}
 use borrow.Author.Tests.{eqb-true, ne_eqb}
 use Rattle.text.specs.Read.{opens, word_at}
 use Rattle.forms.specs.Form.{Form}
+use Rattle.requests.specs.declared.Lists.{Lists}
+use Rattle.requests.specs.Asked.{lists_begun, lists_ended, lists_after}
 use Rattle.forms.specs.Read.{◌>>=◌, after, or_else, begin_in, want_in, area_in, top_in, sub_in, modal_in, end_in, hit_in, focus_in, plain_in, form_in}
 
 abbrev Reader : Type 0
@@ -92,3 +94,31 @@ is_other (a ∷ b ∷ r) h = go (eqb a 40) refl
     go : (t : Bool) → eqb a 40 ≡ t → form_in (a ∷ b ∷ r) ≡ None
     go true e = subst (λ (y : ℕ). form_in (y ∷ b ∷ r) ≡ None) (sym (eqb-true a 40 e)) (other_word b r h)
     go false e = no_bracket a b r e
+
+-- ---- the lists: only `begin` and `end` put entries
+other_after : (s : List ℕ) (x : ℕ) (w : List ℕ) → (get_or s 1 0 ≡ x → ⊥) → after s (40 ∷ x ∷ w) ≡ None
+unfolding opens
+other_after [] x w h = nothing_after [] (40 ∷ x ∷ w) refl
+other_after (a ∷ []) x w h = nothing_after (a ∷ []) (40 ∷ x ∷ w) (go (eqb a 40))
+  where
+    go : (t : Bool) → (t && false) ≡ false
+    go true = refl
+    go false = refl
+other_after (a ∷ b ∷ r) x w h = nothing_after (a ∷ b ∷ r) (40 ∷ x ∷ w) (rw (ne_eqb b x h) (go (eqb a 40)))
+  where
+    go : (t : Bool) → (t && false) ≡ false
+    go true = refl
+    go false = refl
+
+module _ (s : List ℕ) (before now : Lists) where
+  pub after_begin : get_or s 1 0 ≡ 98 → now ≡ lists_begun before (after s (codes "(begin")) → now ≡ lists_after s before
+  unfolding lists_after
+  after_begin e q = q ∙ ap (lists_ended (lists_begun before (after s (codes "(begin")))) (sym (other_after s 101 (codes "nd") (λ k. absurd (let z : 98 ≡ 101 = sym e ∙ k in omega arith))))
+
+  pub after_end : get_or s 1 0 ≡ 101 → now ≡ lists_ended before (after s (codes "(end")) → now ≡ lists_after s before
+  unfolding lists_after
+  after_end e q = q ∙ ap (λ (o : Option (List ℕ)). lists_ended (lists_begun before o) (after s (codes "(end"))) (sym (other_after s 98 (codes "egin") (λ k. absurd (let z : 101 ≡ 98 = sym e ∙ k in omega arith))))
+
+pub after_other : (s : List ℕ) (lists : Lists) → (get_or s 1 0 ≡ 98 → ⊥) → (get_or s 1 0 ≡ 101 → ⊥) → lists ≡ lists_after s lists
+unfolding lists_after
+after_other s lists h k = rw (other_after s 98 (codes "egin") h, other_after s 101 (codes "nd") k) refl

@@ -1,10 +1,11 @@
 -- Entries that stand one behind the other, each after a space: a turn of the loop over them, whatever an entry is. Assumes nothing.
-use Rattle.std.proofs.Common.{◌≡◌, ℕ, zero, suc, ◌+◌, ◌-◌, ◌<◌, ◌≤◌, Bool, true, false, ◌&&◌, cond, eqb, List, [], ◌∷◌, ◌++◌, length, get_or, Option, Some, None, refl, sym, ap, ◌∙◌, arith, length-append, append_assoc, append-nil}
+use Rattle.std.proofs.Common.{◌≡◌, ℕ, suc, ◌+◌, ◌-◌, ◌<◌, ◌≤◌, Bool, true, false, ◌&&◌, cond, eqb, List, [], ◌∷◌, ◌++◌, length, get_or, Option, Some, None, refl, sym, ap, ◌∙◌, arith, length-append, append_assoc, append-nil}
 use borrow.Author.Tests.{eq-eqb, ne_eqb}
 use Rattle.std.specs.Prelude.{codes}
 use Rattle.text.specs.Read.{opens}
 use Rattle.forms.specs.Read.{◌>>=◌, many_in}
-use Rattle.requests.specs.Asked.{Puts}
+use Rattle.requests.specs.Asked.{listed, entries_in}
+use Rattle.requests.specs.Readers.{Puts}
 
 abbrev space : List ℕ
 space = codes " "
@@ -45,17 +46,22 @@ module _ {A : Type 0} (one : List ℕ → Option (A × List ℕ)) where
     pub count : length front ≡ i
     pub holds : Holds front
     pub is : with_front front (many_in one (length s - i) rest) ≡ many_in one (length s) s
+    pub list : front ++ entries_in one (length s - i) rest ≡ entries_in one (length s) s
 
   pub starts : (Holds : List A → Type 0) (s : List ℕ) → Holds [] → Going Holds s 0 s
   starts Holds s h =
       let z : length s - 0 ≡ length s = omega arith in
-      record { front = []; count = refl; holds = h; is = rw z (front_nil (many_in one (length s) s)) }
+      record { front = []; count = refl; holds = h; is = rw z (front_nil (many_in one (length s) s)); list = rw z refl }
 
   module _ (Holds : List A → Type 0) (s : List ℕ) (i : ℕ) (rest : List ℕ) (g : Going Holds s i rest) where
     -- what is read where a turn begins
     turn : (n : ℕ) → length s - i ≡ suc n → (t : Bool) → opens space rest ≡ t → with_front g.front (cond t (one rest >>= λ first. many_in one n first.1 >>= λ others. Some (first.0 ∷ others.0, others.1)) (Some ([], rest))) ≡ many_in one (length s) s
     unfolding many_in
     turn n e t o = rw (← o) (ap (λ (k : ℕ). with_front g.front (many_in one k rest)) (sym e) ∙ g.is)
+
+    list_turn : (n : ℕ) → length s - i ≡ suc n → (t : Bool) → opens space rest ≡ t → g.front ++ cond t (listed (one rest) (entries_in one n)) [] ≡ entries_in one (length s) s
+    unfolding entries_in
+    list_turn n e t o = rw (← o) (ap (λ (k : ℕ). g.front ++ entries_in one k rest) (sym e) ∙ g.list)
 
     left : i < length s → length s - i ≡ suc (length s - (i + 1))
     left h = omega arith
@@ -75,6 +81,19 @@ module _ {A : Type 0} (one : List ℕ → Option (A × List ℕ)) where
         let z : length s - i ≡ 0 = omega arith in
         put Put (f g.front) (sym (ap (λ (k : ℕ). with_front g.front (many_in one k rest)) (sym z) ∙ g.is))
 
+    -- and the list that is then put
+    pub stops_list : i < length s → opens space rest ≡ false → g.front ≡ entries_in one (length s) s
+    stops_list h o = sym (append-nil g.front) ∙ list_turn (length s - (i + 1)) (left h) false o
+
+    pub ends_list : length s ≤ i → g.front ≡ entries_in one (length s) s
+    unfolding entries_in
+    ends_list h =
+        let z : length s - i ≡ 0 = omega arith in
+        sym (append-nil g.front) ∙ ap (λ (k : ℕ). g.front ++ entries_in one k rest) (sym z) ∙ g.list
+
+    pub fails_list : i < length s → opens space rest ≡ true → one rest ≡ None → g.front ≡ entries_in one (length s) s
+    fails_list h o n = sym (append-nil g.front) ∙ (rw n at list_turn (length s - (i + 1)) (left h) true o)
+
     pub fails : i < length s → opens space rest ≡ true → one rest ≡ None → (Put : List A → Type 0) → Puts Put None (many_in one (length s) s)
     fails h o n Put =
         let e : None ≡ many_in one (length s) s = rw n at turn (length s - (i + 1)) (left h) true o in
@@ -89,4 +108,5 @@ module _ {A : Type 0} (one : List ℕ → Option (A × List ℕ)) where
           count = rw length-append (omega (arith, g.count));
           holds = f g.front g.count g.holds;
           is = sym (front_more g.front x (many_in one n' next)) ∙ e;
+          list = append_assoc g.front (x ∷ []) (entries_in one n' next) ∙ (rw n at list_turn n' (left h) true o);
         }

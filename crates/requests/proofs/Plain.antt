@@ -3,7 +3,8 @@ use Rattle.std.proofs.Common.{◌≡◌, ℕ, List, Option, Some, None, sym, sub
 use Rattle.forms.specs.Form.{Form, Begin, Want, Area, Top, Sub, Modal, End, Hit, Focus}
 use Rattle.requests.specs.declared.Request.{Request}
 use Rattle.requests.specs.declared.Lists.{Lists}
-use Rattle.requests.specs.Asked.{Holds, Reads, CarriesNoList, ReadsPlain}
+use Rattle.requests.specs.Asked.{Holds}
+use Rattle.requests.specs.Readers.{Reads, CarriesNoList, ReadsPlain}
 
 holds_any : (lists : Lists) (f : Form) → CarriesNoList f → Holds lists f
 holds_any lists (Begin es) h = absurd h

@@ -1,5 +1,5 @@
 -- 32nds of a point as f32. Assumes nothing.
-use Rattle.std.proofs.Common.{◌≡◌, ℕ, ◌<◌, ◌≤◌, Bool, true, false, cond, refl, ap, ◌∙◌, mul-one, lit<, lit≤, le_trans, arith}
+use Rattle.std.proofs.Common.{◌≡◌, ℕ, ◌<◌, ◌≤◌, true, false, refl, ap, ◌∙◌, mul-one, lit<, lit≤, le_trans}
 use borrow.Author.Tests.{le-leb, lt-leb}
 use lib.IntN.{pos}
 use lib.Ieee.{binary32, round, div, of_int, of_bits, neg}
@@ -9,7 +9,8 @@ use Rattle.floats.proofs.Value.{div_at}
 use Rattle.floats.proofs.Plain.{power, power_value}
 use Rattle.floats.proofs.Held.{round_neg}
 use Rattle.forms.specs.declared.Coordinate.{Coordinate}
-use Rattle.requests.specs.Asked.{bounded, magnitude_of, points}
+use Rattle.requests.specs.Asked.{bounded, points}
+use Rattle.requests.specs.Readers.{magnitude_of}
 
 cast_value : (n : ℕ) → n ≤ 524288 → HasValue (of_int binary32 (pos n)) false n 1
 unfolding of_int

@@ -1,5 +1,6 @@
 -- What a form asks of the memory, from document 01, "The pass program". Definitions only.
-use Rattle.std.specs.Prelude.{◌≡◌, ℕ, ◌*◌, ◌≤◌, Bool, true, false, cond, List, [], ◌∷◌, map, leb, length, replicate, Option, Some, None, Float}
+use Rattle.std.specs.Prelude.{◌≡◌, ℕ, ◌*◌, ◌≤◌, true, false, cond, List, [], ◌∷◌, map, leb, length, replicate, Option, Some, None, Float, zero, suc, ltb, codes}
+use Rattle.std.specs.List.{flat_map}
 use Rattle.std.specs.Float.{binary32}
 use Rattle.std.specs.Float.Ieee.{round, of_bits}
 use Rattle.emath.specs.declared.Pos2.{Pos2}
@@ -22,15 +23,14 @@ use Rattle.forms.specs.declared.Place.{Place}
 use Rattle.requests.specs.declared.Request.{Request}
 use Rattle.requests.specs.declared.Request.TheVariants as asks
 use Rattle.requests.specs.declared.Lists.{Lists}
-use Rattle.forms.specs.Read.{◌>>=◌, after}
+use Rattle.text.specs.Read.{opens}
+use Rattle.tables.specs.Tables.{written_on}
+use Rattle.forms.specs.Read.{after, entry_in, place_in, longest_line}
 use Rattle.forms.specs.Form.{Form, Begin, Want, Area, Top, Sub, Modal, End, Hit, Focus, flag}
 
 -- ---- coordinates: 32nds of a point, up to 524,288. Any more stand for 65,536 points, past every bound of the table of refusals, so that a call refuses them as it refuses a number past its bounds
 abbrev pub bounded : ℕ → ℕ
 bounded steps = cond (leb steps 524288) steps 2097152
-
-abbrev pub magnitude_of : ℕ → Float
-magnitude_of steps = round binary32 false (bounded steps) 32
 
 unfoldable pub points : Coordinate → Float
 points c = round binary32 c.below (bounded c.steps) 32
@@ -95,26 +95,32 @@ Holds lists (Begin entries) = HoldsEvents lists.events (map event_of entries)
 Holds lists (End places) = HoldsUsed lists.used (map candidate_of places)
 Holds lists f = Unit {0}
 
--- what a reader of entries gives and what the lists then hold, by what is read
-abbrev pub Puts : {A : Type 0} → (List A → Type 0) → Option (List ℕ) → Option (List A × List ℕ) → Type 0
-Puts Held given (Some r) = (given ≡ Some r.1) × Held r.0
-Puts Held given None = given ≡ None
+-- ---- what the lists hold after any line: the entries of a `begin` or an `end` that stand behind its word, up to the first that is none, over what was there
+abbrev pub listed : {A : Type 0} → Option (A × List ℕ) → (List ℕ → List A) → List A
+listed (Some x) others = x.0 ∷ others x.1
+listed None others = []
 
--- a word, and what a reader reads behind it
-abbrev pub behind : List ℕ → List ℕ → (List ℕ → Option (Form × List ℕ)) → Option (Form × List ℕ)
-behind s word reader = after s word >>= reader
+module _ {A : Type 0} (one : List ℕ → Option (A × List ℕ)) where
+  unfoldable pub entries_in : ℕ → List ℕ → List A
+  entries_in zero s = []
+  entries_in (suc n) s = cond (opens (codes " ") s) (listed (one s) (entries_in n)) []
 
--- what a reader of forms gives and what the lists then hold, by the form that is read
-abbrev pub Reads : Option (Request × List ℕ) → Lists → Option (Form × List ℕ) → Type 0
-Reads given lists (Some f) = (given ≡ Some (request_of f.0, f.1)) × Holds lists f.0
-Reads given lists None = given ≡ None
+abbrev pub events_with : Events → List Entry → Events
+events_with e entries = record { words = written_on e.words (flat_map words_of entries); count = length entries }
 
--- the same of a form that carries no list
-abbrev pub CarriesNoList : Form → Type 0
-CarriesNoList (Begin entries) = ⊥
-CarriesNoList (End places) = ⊥
-CarriesNoList f = Unit {0}
+abbrev pub used_with : Used → List Place → Used
+used_with u places = record { ids = written_on u.ids (map (λ (p : Place). p.id) places); corners = written_on u.corners (flat_map corners_of places); count = length places }
 
-abbrev pub ReadsPlain : Option (Request × List ℕ) → Option (Form × List ℕ) → Type 0
-ReadsPlain given (Some f) = (given ≡ Some (request_of f.0, f.1)) × CarriesNoList f.0
-ReadsPlain given None = given ≡ None
+abbrev pub lists_begun : Lists → Option (List ℕ) → Lists
+lists_begun l (Some s) = record { events = events_with l.events (entries_in entry_in (length s) s); used = l.used }
+lists_begun l None = l
+
+abbrev pub lists_ended : Lists → Option (List ℕ) → Lists
+lists_ended l (Some s) = record { events = l.events; used = used_with l.used (entries_in place_in (length s) s) }
+lists_ended l None = l
+
+unfoldable pub lists_after : List ℕ → Lists → Lists
+lists_after s l = lists_ended (lists_begun l (after s (codes "(begin"))) (after s (codes "(end"))
+
+abbrev pub lists_read : List ℕ → Lists → Lists
+lists_read line l = cond (ltb longest_line (length line)) l (lists_after line l)

@@ -2,7 +2,8 @@
 ghost use Rattle.std.specs.Prelude.{◌≡◌, ◌*◌, length, map};
 ghost use Rattle.tables.specs.Tables.{put_at};
 ghost use Rattle.forms.specs.Read.{bytes_seen, many_in, entry_in, place_in};
-ghost use Rattle.requests.specs.Asked.{event_of, candidate_of, HoldsEvents, HoldsUsed, Puts};
+ghost use Rattle.requests.specs.Asked.{event_of, candidate_of, HoldsEvents, HoldsUsed, entries_in, events_with, used_with};
+ghost use Rattle.requests.specs.Readers.{Puts};
 
 use crate::points::{corners, words};
 use focus::{Events, Used};
@@ -21,7 +22,8 @@ fn put_row<T: Copy>(rows: &mut [T], i: usize, row: [T; 4])
 // Both loops stay functions of their own: where LLVM puts them into the function that reads all forms, an entry takes a fifth more time.
 #[inline(never)]
 pub(crate) fn entries<'a>(s: &'a [u8], events: &mut Events) -> Option<&'a [u8]>
-    ensures { Puts (λ es. HoldsEvents events.new (map event_of es)) (bytes_seen result) (many_in entry_in (length s.now) s.now) }
+    ensures read { Puts (λ es. HoldsEvents events.new (map event_of es)) (bytes_seen result) (many_in entry_in (length s.now) s.now) }
+    ensures events { events.new ≡ events_with events.old (entries_in entry_in (length s.now) s.now) }
 {
     events.count = 0;
     let mut rest = s;
@@ -39,7 +41,8 @@ pub(crate) fn entries<'a>(s: &'a [u8], events: &mut Events) -> Option<&'a [u8]>
 
 #[inline(never)]
 pub(crate) fn places<'a>(s: &'a [u8], used: &mut Used) -> Option<&'a [u8]>
-    ensures { Puts (λ ps. HoldsUsed used.new (map candidate_of ps)) (bytes_seen result) (many_in place_in (length s.now) s.now) }
+    ensures read { Puts (λ ps. HoldsUsed used.new (map candidate_of ps)) (bytes_seen result) (many_in place_in (length s.now) s.now) }
+    ensures used { used.new ≡ used_with used.old (entries_in place_in (length s.now) s.now) }
 {
     used.count = 0;
     let mut rest = s;

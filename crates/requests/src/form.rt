@@ -1,7 +1,8 @@
 // A form without its closing bracket: what it asks, and the bytes after it. None where it does not stand there.
 ghost use Rattle.std.specs.Prelude.{◌≡◌, codes};
-ghost use Rattle.forms.specs.Read.{seen, want_in, area_in, top_in, sub_in, modal_in, hit_in, focus_in, begin_in, end_in, form_in};
-ghost use Rattle.requests.specs.Asked.{behind, Reads, ReadsPlain};
+ghost use Rattle.forms.specs.Read.{seen, after, want_in, area_in, top_in, sub_in, modal_in, hit_in, focus_in, begin_in, end_in, form_in};
+ghost use Rattle.requests.specs.Asked.{lists_begun, lists_ended, lists_after};
+ghost use Rattle.requests.specs.Readers.{behind, Reads, ReadsPlain};
 
 use crate::points::{area_state, pos};
 use crate::{Lists, Request, entries};
@@ -73,7 +74,8 @@ fn hit(s: &[u8]) -> Option<(Request, &[u8])>
 
 #[tactic(auto, unfolding(forms::specs::Read::begin_in))]
 fn begin<'a>(s: &'a [u8], lists: &mut Lists) -> Option<(Request, &'a [u8])>
-    ensures { Reads (seen result) lists.new (behind s.now (codes "(begin") begin_in) }
+    ensures read { Reads (seen result) lists.new (behind s.now (codes "(begin") begin_in) }
+    ensures lists { lists.new ≡ lists_begun lists.old (after s.now (codes "(begin")) }
 {
     let s = after(s, b"(begin")?;
     let rest = entries::entries(s, &mut lists.events)?;
@@ -82,7 +84,8 @@ fn begin<'a>(s: &'a [u8], lists: &mut Lists) -> Option<(Request, &'a [u8])>
 
 #[tactic(auto, unfolding(forms::specs::Read::end_in))]
 fn end<'a>(s: &'a [u8], lists: &mut Lists) -> Option<(Request, &'a [u8])>
-    ensures { Reads (seen result) lists.new (behind s.now (codes "(end") end_in) }
+    ensures read { Reads (seen result) lists.new (behind s.now (codes "(end") end_in) }
+    ensures lists { lists.new ≡ lists_ended lists.old (after s.now (codes "(end")) }
 {
     let s = after(s, b"(end")?;
     let rest = entries::places(s, &mut lists.used)?;
@@ -98,7 +101,8 @@ fn focus(s: &[u8]) -> Option<(Request, &[u8])>
 
 // No two words have one first letter.
 pub(crate) fn form<'a>(s: &'a [u8], lists: &mut Lists) -> Option<(Request, &'a [u8])>
-    ensures { Reads (seen result) lists.new (form_in s.now) }
+    ensures read { Reads (seen result) lists.new (form_in s.now) }
+    ensures lists { lists.new ≡ lists_after s.now lists.old }
 {
     match text::byte(s, 1) {
         b'b' => begin(s, lists),

@@ -8,7 +8,7 @@ ghost use Rattle.floats.specs.Count.{at, signed, count_of};
 ghost use Rattle.grid.specs.Grid.{corner_refusal, pivot_refusal, side_refusal};
 ghost use Rattle.forms.specs.declared.Coordinate.{Coordinate};
 ghost use Rattle.forms.specs.Read.{form_of};
-ghost use Rattle.requests.specs.Asked.{bounded, points, no_lists, request_of, Holds};
+ghost use Rattle.requests.specs.Asked.{bounded, points, no_lists, request_of, lists_read, Holds};
 
 mod entries;
 mod form;
@@ -33,7 +33,7 @@ pub enum Request {
     Focus,
 }
 
-// The entries of the last `begin` and of the last `end`: of more than there is room for only their number counts.
+// The entries of the last line that began as a `begin`, and as an `end`: of more than there is room for only their number counts.
 #[derive(Clone, Copy)]
 pub struct Lists {
     pub events: Events,
@@ -66,7 +66,8 @@ pub const LONGEST_LINE: usize = 16384;
 #[tactic(auto, unfolding(forms::specs::Read::form_of))]
 pub fn read(line: &[u8], lists: &mut Lists) -> Option<Request>
     ensures request { result ≡ option_map request_of (form_of line.now) }
-    ensures lists { IfSome (form_of line.now) (Holds lists.new) }
+    ensures lists { lists.new ≡ lists_read line.now lists.old }
+    ensures held { IfSome (form_of line.now) (Holds lists.new) }
 {
     if LONGEST_LINE < line.len() {
         return None;

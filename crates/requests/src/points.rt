@@ -1,6 +1,7 @@
 // What the parts of a form mean to the memory.
 ghost use Rattle.std.specs.Prelude.{◌≡◌};
-ghost use Rattle.requests.specs.Asked.{magnitude_of, points, pos_of, state_of, corners_of, words_of};
+ghost use Rattle.requests.specs.Readers.{magnitude_of};
+ghost use Rattle.requests.specs.Asked.{points, pos_of, state_of, corners_of, words_of};
 
 use area::{Align2, AreaState, PivotPos};
 use emath::{Pos2, Vec2};

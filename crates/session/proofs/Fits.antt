@@ -1,14 +1,10 @@
 -- The answers to a session are no longer than six bytes for each of its bytes. Assumes nothing.
-use Rattle.std.proofs.Common.{◌≡◌, ℕ, zero, suc, ◌+◌, ◌*◌, ◌/◌, ◌%◌, ◌<◌, ◌≤◌, Bool, true, false, cond, eqb, ltb, max, List, [], ◌∷◌, ◌++◌, length, map, Option, Some, None, refl, sym, ap, ◌∙◌, arith, length-append, inl, inr}
+use Rattle.std.proofs.Common.{◌≡◌, ℕ, suc, ◌+◌, ◌*◌, ◌/◌, ◌%◌, ◌<◌, ◌≤◌, Bool, true, false, cond, eqb, ltb, max, List, [], ◌∷◌, ◌++◌, length, map, Option, Some, None, refl, ap, arith, length-append, inl, inr}
 use Rattle.std.proofs.lemmas.Bool.{cases_lt}
-use Rattle.std.proofs.lemmas.List.Concat.{flat_map-cons}
 use Rattle.std.specs.Prelude.{codes}
-use Rattle.std.specs.List.{flat_map}
 use borrow.Author.Tests.{le-ltb, lt-ltb}
 use Rattle.tables.specs.Tables.{written_on}
 use Rattle.text.specs.Put.{decimal_in, decimal_of}
-use Rattle.emath.specs.declared.Pos2.{Pos2}
-use Rattle.layers.specs.declared.LayerId.{LayerId}
 use Rattle.memory_rules.specs.declared.Memory.{Memory}
 use Rattle.memory_rules.specs.State.{nav_of, new_memory}
 use Rattle.memory_rules.specs.Calls.{Call, done_by}
@@ -19,7 +15,6 @@ use Rattle.forms.specs.Read.{form_of}
 use Rattle.forms.proofs.Forms.{form_takes}
 use Rattle.forms.proofs.Shortest.{shortest}
 use Rattle.requests.specs.Asked.{event_of, state_of, child_of, candidate_of}
-use Rattle.session.specs.declared.runner.Answer.{Answer}
 use Rattle.session.specs.declared.runner.Answer.TheVariants as answers
 use Rattle.session.specs.Session.{answer_by, called, step, step_by, onto, lines_of, answers_from, answers_to}
 use Rattle.session.specs.Output.{line_of, lines_of_answers, said, output_of, filled_by}

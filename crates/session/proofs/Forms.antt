@@ -1,5 +1,5 @@
 -- A line that is read as a form: its request is answered as the form is. Assumes nothing.
-use Rattle.std.proofs.Common.{◌≡◌, Option, Some, None, List, refl, sym, ap, subst, ◌∙◌, map}
+use Rattle.std.proofs.Common.{◌≡◌, Option, Some, None, refl, subst, map}
 use Rattle.std.specs.Prelude.{IfSome}
 use Rattle.std.specs.Option.{option_map}
 use Rattle.memory_rules.specs.declared.Memory.{Memory}

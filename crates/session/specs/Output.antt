@@ -1,5 +1,5 @@
 -- How the answers are written, a line each, from document 01, "The pass program"; and what of them a buffer gets. Definitions only.
-use Rattle.std.specs.Prelude.{ℕ, ◌-◌, cond, List, [], ◌∷◌, ◌++◌, leb, length, map, codes}
+use Rattle.std.specs.Prelude.{ℕ, ◌-◌, cond, List, [], ◌∷◌, ◌++◌, leb, length, codes}
 use Rattle.std.specs.List.{flat_map}
 use Rattle.text.specs.Put.{decimal_of}
 use Rattle.tables.specs.Tables.{written_on}
@@ -7,10 +7,11 @@ use Rattle.session.specs.declared.runner.Answer.{Answer}
 use Rattle.session.specs.declared.runner.Answer.TheVariants.{Ok, NoForm, No, Layer, Id, None}
 use Rattle.session.specs.Session.{answers_to}
 
--- a word, so many numbers, each with a space before it, and the end of the line
+-- a space and a number
 abbrev pub number : ℕ → List ℕ
 number n = codes " " ++ decimal_of n
 
+-- a word, so many such numbers, and the end of the line
 unfoldable pub said : List ℕ → List ℕ → List ℕ
 said word numbers = word ++ (flat_map number numbers ++ codes "\n")
 

@@ -1,4 +1,4 @@
--- What the steps of the code do: the first line cut off; and what it does with a request, whose entries stand in its lists; by `step` it is what the form asks. Definitions only.
+-- What the steps of the code do: the first line cut off; and what it does with a request, whose entries stand in its lists; by `step` it is what the form unchanged. Definitions only.
 use Rattle.std.specs.Prelude.{◌≡◌, ℕ, ◌+◌, ◌<◌, ◌≤◌, List, ◌∷◌, length}
 use Rattle.input.specs.declared.Event.{Event}
 use Rattle.search.specs.declared.Candidate.{Candidate}
@@ -8,7 +8,7 @@ use Rattle.requests.specs.declared.Request.{Request}
 use Rattle.requests.specs.declared.Request.TheVariants.{Begin, Want, Area, Top, Sub, Modal, End, Hit, Focus}
 use Rattle.requests.specs.declared.Lists.{Lists}
 use Rattle.requests.specs.Asked.{HoldsEvents, HoldsUsed}
-use Rattle.session.specs.Session.{Step, called, asks, hit_answer, focus_answer, lines_of}
+use Rattle.session.specs.Session.{Step, called, unchanged, hit_answer, focus_answer, lines_of}
 
 -- the first line of a session and what comes after it
 pub record Cuts (s line rest : List ℕ) : Type 0 where
@@ -24,5 +24,5 @@ Leaves (Top layer) lists m s = s ≡ called m (calls.MoveToTop layer)
 Leaves (Sub parent child) lists m s = s ≡ called m (calls.SetSublayer parent child)
 Leaves (Modal layer) lists m s = s ≡ called m (calls.SetModalLayer layer)
 Leaves End lists m s = (us : List Candidate) → HoldsUsed lists.used us → s ≡ called m (calls.End us)
-Leaves (Hit pos) lists m s = s ≡ asks m (hit_answer m pos)
-Leaves Focus lists m s = s ≡ asks m (focus_answer m)
+Leaves (Hit pos) lists m s = s ≡ unchanged m (hit_answer m pos)
+Leaves Focus lists m s = s ≡ unchanged m (focus_answer m)

@@ -5,7 +5,7 @@ use Rattle.emath.specs.declared.Pos2.{Pos2}
 use Rattle.grid.specs.Grid.{pos_refusal}
 use Rattle.layers.specs.declared.LayerId.{LayerId}
 use Rattle.memory_rules.specs.declared.Memory.{Memory}
-use Rattle.memory_rules.specs.State.{Done, nav_of, new_memory}
+use Rattle.memory_rules.specs.State.{nav_of, new_memory}
 use Rattle.memory_rules.specs.Memory.{layer_id_at}
 use Rattle.memory_rules.specs.Calls.{Call, done_by}
 use Rattle.memory_rules.specs.Calls as calls
@@ -36,12 +36,12 @@ hit_answer m pos = let refusal = pos_refusal pos in cond (eqb refusal none) (lay
 abbrev pub focus_answer : Memory → Answer
 focus_answer m = let id = (nav_of m).focused in cond (eqb id 0) answers.None (answers.Id id)
 
--- ---- a line
+-- ---- a line: a call of the memory, or a query that leaves it as it was
 abbrev pub called : Memory → Call → Step
 called m call = let d = done_by call m in record { memory = d.memory; answer = answer_by d.refusal }
 
-abbrev pub asks : Memory → Answer → Step
-asks m answer = record { memory = m; answer = answer }
+abbrev pub unchanged : Memory → Answer → Step
+unchanged m answer = record { memory = m; answer = answer }
 
 unfoldable pub step : Memory → Form → Step
 step m (Begin entries) = called m (calls.Begin (map event_of entries))
@@ -51,13 +51,13 @@ step m (Top layer) = called m (calls.MoveToTop layer)
 step m (Sub parent child) = called m (calls.SetSublayer parent (child_of parent child))
 step m (Modal layer) = called m (calls.SetModalLayer layer)
 step m (End places) = called m (calls.End (map candidate_of places))
-step m (Hit at) = asks m (hit_answer m (pos_of at))
-step m Focus = asks m (focus_answer m)
+step m (Hit at) = unchanged m (hit_answer m (pos_of at))
+step m Focus = unchanged m (focus_answer m)
 
 -- a line that is no form changes nothing
 abbrev pub step_by : Memory → Option Form → Step
 step_by m (Some f) = step m f
-step_by m None = asks m answers.NoForm
+step_by m None = unchanged m answers.NoForm
 
 -- ---- the lines: byte 10 ends one, and the end of the input too
 abbrev pub onto : ℕ → List (List ℕ) → List (List ℕ)
