@@ -2,15 +2,20 @@
 //!
 //!     selftest oracle BREAKS OUT LISTS    each break of breaks.txt, told from the oracle by the comparer on that many lists
 //!     selftest search BREAKS OUT TABLES   each break of BREAKS, told from the oracle by the search in that many tables
-//!     selftest port OUT SAMPLE UNREACHED  each must-fail edit of running code, told from the oracle by its answers to SAMPLE
+//!     selftest panel BREAKS OUT SESSIONS  each break of BREAKS, told from the oracle by the pass program in the sessions of that folder
+//!     selftest port OUT SAMPLE STORED DRAWN UNREACHED [CRATE..]
+//!                                         each must-fail edit of running code, or of these crates alone, told from the oracle by its answers to SAMPLE, or
+//!                                         to the sessions of the folders STORED and DRAWN where only the pass program stands on the crate
 //!
 //! It prints a table and fails if a break is not found. OUT is the folder that tools/oracle has filled.
 mod oracle;
 mod port;
+mod tried;
 
 use std::path::Path;
 use std::process::{Command, exit};
 use std::{env, fs};
+use tried::Port;
 
 /// A break, and what became of it.
 pub struct Row {
@@ -33,32 +38,44 @@ fn main() {
         ["oracle", breaks, out, lists] => {
             println!("| break | found in list | shrunk to | the last line asks |");
             println!("|---|---|---|---|");
-            let text = read(Path::new(breaks));
-            oracle::rows(
-                &oracle::breaks(&text),
-                Path::new(out),
-                lists,
-                oracle::compare,
-            )
+            of_oracle(breaks, out, lists, oracle::compare)
         }
         ["search", breaks, out, tables] => {
             println!("| break | found in tables |\n|---|---|");
-            let text = read(Path::new(breaks));
-            oracle::rows(
-                &oracle::breaks(&text),
-                Path::new(out),
-                tables,
-                oracle::search,
-            )
+            of_oracle(breaks, out, tables, oracle::search)
         }
-        ["port", out, sample, unreached] => {
+        ["panel", breaks, out, sessions] => {
+            println!("| break | found in sessions | the shortest line that shows it |");
+            println!("|---|---|---|");
+            of_oracle(breaks, out, sessions, oracle::panel)
+        }
+        ["port", out, sample, ref rest @ ..] => {
             println!("| crate | edit | found in |\n|---|---|---|");
-            port::rows(Path::new(out), Path::new(sample), Path::new(unreached))
+            of_port(out, sample, rest)
         }
-        _ => stop(
-            "usage: selftest oracle BREAKS OUT LISTS | search BREAKS OUT TABLES | port OUT SAMPLE UNREACHED",
-        ),
+        _ => stop("usage: see the head of oracle/selftest/main.rs"),
     };
+    end(&rows)
+}
+
+fn of_oracle(breaks: &str, out: &str, count: &str, test: oracle::Test) -> Vec<Row> {
+    let text = read(Path::new(breaks));
+    oracle::rows(&oracle::breaks(&text), Path::new(out), count, test)
+}
+
+fn of_port(out: &str, sample: &str, rest: &[&str]) -> Vec<Row> {
+    let [stored, drawn, unreached, crates @ ..] = rest else {
+        stop("no sessions, or no list of what is out of reach")
+    };
+    let port = Port::copy(Path::new(out), Path::new(sample), &[stored, drawn]);
+    let port = port.unwrap_or_else(|why| stop(&why));
+    let rows = port::rows(&port, Path::new(unreached), crates);
+    fs::remove_dir_all(&port.folder).ok();
+    rows
+}
+
+/// Prints the rows and how many breaks are found.
+fn end(rows: &[Row]) -> ! {
     rows.iter().for_each(|row| println!("{}", row.text));
     let count = |end: End| rows.iter().filter(|row| row.end == end).count();
     let (found, beyond) = (count(End::Found), count(End::OutOfReach));

@@ -168,3 +168,42 @@ pub fn compare(out: &Path, program: &str, lists: &str) -> (bool, String) {
         _ => (false, "NOT FOUND | | ".to_owned()),
     }
 }
+
+/// In how many sessions of a folder the pass program answers otherwise than is stored beside them, and the shortest line that is the first answered so.
+pub fn panel(_: &Path, program: &str, folder: &str) -> (bool, String) {
+    let paths = crate::port::files(Path::new(folder));
+    let sessions = paths.iter().filter(|path| path.extension().is_none());
+    let all: Vec<Vec<u8>> = sessions.filter_map(|path| other(program, path)).collect();
+    let shortest = all.iter().min_by_key(|line| line.len());
+    let line = shortest.map_or(String::new(), |line| shown(line));
+    (shortest.is_some(), format!("{} | {line}", all.len()))
+}
+
+/// The first line of a session that the program answers otherwise.
+fn other(program: &str, path: &Path) -> Option<Vec<u8>> {
+    let input = fs::File::open(path).unwrap_or_else(|e| stop(&e.to_string()));
+    let done = Command::new(program).arg("panel").stdin(input).output();
+    let found = done.unwrap_or_else(|e| stop(&e.to_string())).stdout;
+    let bytes = |path: &Path| fs::read(path).unwrap_or_else(|e| stop(&e.to_string()));
+    let wanted = bytes(&path.with_extension("stdout"));
+    if found == wanted {
+        return None;
+    }
+    let lines = |bytes: &[u8]| -> Vec<Vec<u8>> {
+        let lines = bytes.split(|b| *b == b'\n');
+        lines.map(<[u8]>::to_vec).collect()
+    };
+    let (found, wanted) = (lines(&found), lines(&wanted));
+    let pairs = found.iter().zip(&wanted);
+    let same = pairs.take_while(|(found, wanted)| found == wanted).count();
+    let asked = lines(&bytes(path)).into_iter().nth(same);
+    Some(asked.unwrap_or_default())
+}
+
+fn shown(line: &[u8]) -> String {
+    match line {
+        [] => "a blank line".to_owned(),
+        _ if line.len() <= 60 => format!("`{}`", line.escape_ascii()),
+        _ => format!("`{}..`, {} bytes", line[..12].escape_ascii(), line.len()),
+    }
+}

@@ -1,9 +1,9 @@
-//! Breaks of the port: the must-fail edits of running code, which the prover refuses, are run unproved (`rt try`) on the stored sample
-//! and must be told from the oracle by their answers. It works on a copy of the crates, outside the repository.
-use crate::{End, Row, read, run, stop};
+//! Breaks of the port: the must-fail edits of running code, which the prover refuses, are run unproved on the stored sample or, in a crate that only the pass
+//! program stands on, on sessions, and must be told from the oracle by their answers.
+use crate::tried::{Port, Program};
+use crate::{End, Row, read, stop};
+use std::fs;
 use std::path::{Path, PathBuf};
-use std::process::Command;
-use std::{env, fs, process};
 
 struct Edit {
     krate: String,
@@ -13,34 +13,24 @@ struct Edit {
     new: String,
 }
 
-pub fn rows(out: &Path, sample: &Path, unreached: &Path) -> Vec<Row> {
-    let folder = copy(out, sample).unwrap_or_else(|why| stop(&why));
-    if first_difference(&folder).is_some() {
-        stop("the port as it is does not answer the sample as the oracle does");
+pub fn rows(port: &Port, unreached: &Path, crates: &[&str]) -> Vec<Row> {
+    let mut edits = edits(&port.folder);
+    edits.retain(|edit| crates.is_empty() || crates.contains(&edit.krate.as_str()));
+    for program in [Program::Replay, Program::Panelrun] {
+        let asked = edits
+            .iter()
+            .any(|e| port.program(&e.krate) == Some(program));
+        if asked && let Some(place) = port.first_difference(program) {
+            stop(&format!(
+                "the port as it is answers {place} otherwise than the oracle"
+            ));
+        }
     }
     let unreached = read(unreached);
-    let rows = edits(&folder)
+    edits
         .iter()
-        .map(|edit| row(&folder, edit, &unreached))
-        .collect();
-    fs::remove_dir_all(&folder).ok();
-    rows
-}
-
-/// A copy of the crates whose `replay` is run on the sample, and must write what the oracle answers.
-fn copy(out: &Path, sample: &Path) -> Result<PathBuf, String> {
-    let folder = env::temp_dir().join(format!("port-{}", process::id()));
-    fs::create_dir_all(&folder).map_err(|e| e.to_string())?;
-    // What checks have kept is large, and no part of it.
-    let copied = "tar --exclude=out -cf - crates crates.txt | tar xf - -C \"$0\"";
-    run(Command::new("sh").args(["-c", copied]).arg(&folder))?;
-    let replay = folder.join("crates/replay");
-    fs::copy(sample, replay.join("stdin")).map_err(|e| e.to_string())?;
-    let input = fs::File::open(sample).map_err(|e| e.to_string())?;
-    let answers = Command::new(out.join("oracle")).stdin(input).output();
-    let answers = answers.map_err(|e| e.to_string())?.stdout;
-    fs::write(replay.join("stdout"), answers).map_err(|e| e.to_string())?;
-    Ok(folder)
+        .map(|edit| row(port, edit, &unreached))
+        .collect()
 }
 
 /// The edits of running code in every crate.
@@ -52,7 +42,7 @@ fn edits(folder: &Path) -> Vec<Edit> {
     paths.filter_map(|path| edit(&path)).collect()
 }
 
-fn files(folder: &Path) -> Vec<PathBuf> {
+pub fn files(folder: &Path) -> Vec<PathBuf> {
     let entries = fs::read_dir(folder).into_iter().flatten().flatten();
     let mut paths: Vec<PathBuf> = entries.map(|entry| entry.path()).collect();
     paths.sort();
@@ -92,16 +82,17 @@ fn name(path: &Path) -> String {
 }
 
 /// The edit applied, tried and taken back. One that no call reaches yet must not show.
-fn row(folder: &Path, edit: &Edit, unreached: &str) -> Row {
+fn row(port: &Port, edit: &Edit, unreached: &str) -> Row {
     let text = read(&edit.file);
     let put = |text: &str| fs::write(&edit.file, text).unwrap_or_else(|e| stop(&e.to_string()));
     put(&text.replacen(&edit.old, &edit.new, 1));
-    let place = first_difference(folder);
+    let program = port.program(&edit.krate);
+    let place = program.and_then(|program| port.first_difference(program));
     put(&text);
     let known = format!("{} {}", edit.krate, edit.label);
     let unreached = unreached.lines().any(|line| line == known);
     let (end, cell) = match (place, unreached) {
-        (Some(line), false) => (End::Found, format!("line {line}")),
+        (Some(place), false) => (End::Found, place),
         (None, true) => (End::OutOfReach, "no call shows it yet".to_owned()),
         (Some(_), true) => (End::Wrong, "FOUND, but said to be out of reach".to_owned()),
         (None, false) => (End::Wrong, "NOT FOUND".to_owned()),
@@ -111,30 +102,4 @@ fn row(folder: &Path, edit: &Edit, unreached: &str) -> Row {
         text: format!("| {} | {label} | {cell} |", edit.krate),
         end,
     }
-}
-
-/// The line of the sample that the program answers otherwise. (`rt try` runs it compiled, and interpreted as far as that goes; it prints the answers once.)
-fn first_difference(folder: &Path) -> Option<String> {
-    let replay = folder.join("crates/replay");
-    let sample = fs::File::open(replay.join("stdin")).unwrap_or_else(|e| stop(&e.to_string()));
-    let tried = Command::new("rt")
-        .arg("try")
-        .current_dir(&replay)
-        .stdin(sample)
-        .output();
-    let tried = tried.unwrap_or_else(|e| stop(&e.to_string()));
-    let said = String::from_utf8_lossy(&tried.stderr);
-    if !said.contains("checked: ") {
-        stop(&format!("rt try: {said}"));
-    }
-    let wanted = read(&replay.join("stdout"));
-    let found = String::from_utf8_lossy(&tried.stdout);
-    if found == wanted {
-        return None;
-    }
-    let same = wanted
-        .lines()
-        .zip(found.lines())
-        .take_while(|(wanted, found)| wanted == found);
-    Some((1 + same.count()).to_string())
 }
