@@ -1,13 +1,5 @@
 //! Words and lines of the protocol, drawn at random.
-use crate::rng::Rng;
-
-pub struct Draw {
-    pub rng: Rng,
-    /// How many of a hundred words are drawn from outside the domain.
-    pub malice: usize,
-    /// Most ids are drawn from the first so many: the fewer, the oftener they meet.
-    pub pool: usize,
-}
+pub use crate::domain::Draw;
 
 /// Each call with the shape of its arguments: i an id, o an Order, l a layer, d a direction, f a flag, x a float, s an area's state,
 /// c a corner of two floats, p a pair of layers, e an event, E a list of events, U a list of used entries, w a registry record.
@@ -86,10 +78,6 @@ pub fn steps(n: i64) -> u32 {
 }
 
 impl Draw {
-    fn bad(&mut self) -> bool {
-        self.rng.percent(self.malice)
-    }
-
     /// A call with its arguments.
     pub fn call(&mut self, name: &str) -> String {
         let found = CALLS.iter().find(|(known, _)| *known == name);
@@ -123,40 +111,6 @@ impl Draw {
             'U' => self.used(),
             _ => self.record(),
         }
-    }
-
-    pub fn id(&mut self) -> u64 {
-        if self.bad() {
-            return 0;
-        }
-        match self.rng.below(20) {
-            0 => self.rng.pick(&[u64::MAX, 1 << 63, 1 << 32, 0xFFFF_FFFF]),
-            1 | 2 => self.rng.below(60) as u64 + 1,
-            _ => self.rng.below(self.pool) as u64 + 1,
-        }
-    }
-
-    /// A code up to its last, or past it.
-    pub fn code(&mut self, last: u64) -> u64 {
-        if self.bad() {
-            return self.rng.pick(&[last + 1, last + 2, 256, 1 << 32, u64::MAX]);
-        }
-        if self.rng.percent(10) {
-            return last;
-        }
-        self.rng.below(last as usize + 1) as u64
-    }
-
-    pub fn order(&mut self) -> u64 {
-        if self.rng.percent(60) {
-            1
-        } else {
-            self.code(4)
-        }
-    }
-
-    pub fn layer(&mut self) -> String {
-        format!("{} {}", self.order(), self.id())
     }
 
     /// Two layers, mostly of one Order.

@@ -1,5 +1,6 @@
 //! The kinds of lists: random, around limits and refusals, and realistic ones. Each list begins with `new` and ends with `state`.
 use crate::close_calls;
+use crate::domain::respell;
 use crate::draw::Draw;
 use crate::keys;
 use crate::limits;
@@ -115,14 +116,8 @@ fn spoil(d: &mut Draw, line: &str) -> String {
     }
     let place = d.rng.below(words.len());
     let word = d.rng.pick(ODD).to_owned();
-    match d.rng.below(8) {
-        0 => words.insert(place, word),
-        1 => drop(words.remove(place)),
-        2 => words.push(word),
-        3 => words[place] = words[place].to_uppercase(),
-        4 => words[place] = format!("0{}", words[place]),
-        5 => words[place].push_str(&word),
-        _ => words[place] = word,
+    if !respell(&mut words, place, &word, d.rng.below(8)) {
+        words[place] = word;
     }
     words.join(" ")
 }

@@ -143,13 +143,7 @@ fn long_used(d: &mut Draw) -> Vec<String> {
     for _ in 0..3 {
         d.malice = d.rng.pick(&[0, 0, 0, 1]);
         let mut ids = near(d, 257);
-        if d.rng.percent(30) {
-            // One id twice, anywhere: the first and the last place among them.
-            let last = ids.len() - 1;
-            let from = d.rng.pick(&[0, 100, last]);
-            let to = d.rng.pick(&[last, 200, 1]);
-            ids[to] = ids[from];
-        }
+        d.repeat_one(&mut ids);
         lines.push("begin 1 k 2 1 0 0".to_owned());
         lines.push("request_focus 1".to_owned());
         lines.push(format!("end {}", d.used_of(&ids)));

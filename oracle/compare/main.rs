@@ -7,6 +7,7 @@
 //!
 //! ORACLE and PORT may have arguments, after spaces. DIFFERENCES is docs/DIFFERENCES.md, which names the calls not ported yet.
 mod close_calls;
+mod domain;
 mod draw;
 mod keys;
 mod kinds;

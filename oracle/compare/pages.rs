@@ -1,4 +1,5 @@
 //! Realistic lists: pages of fields, passed over again and again with keys, arrows and a modal box.
+use crate::domain::spot;
 use crate::draw::{Draw, steps};
 
 struct Field {
@@ -40,42 +41,18 @@ fn end<'a>(fields: impl Iterator<Item = &'a Field>) -> String {
     format!("end {}{}", entries.len(), entries.concat())
 }
 
-/// Ids that are small, or spread like hashes.
-fn ids(d: &mut Draw, count: usize) -> Vec<u64> {
-    if d.rng.percent(70) {
-        let mut all: Vec<u64> = (1..=count as u64).collect();
-        d.rng.shuffle(&mut all);
-        all
-    } else {
-        (0..count).map(|_| d.rng.next() | 1).collect()
-    }
-}
-
-/// A rectangle of a layout: a cell of a table, a place of a row or a column, a diagonal, or anywhere.
+/// A rectangle of a layout, or anywhere.
 fn rect(d: &mut Draw, layout: usize, place: i64) -> [i64; 4] {
-    let (x, y) = match layout {
-        0 => (96 * (place % 5), 64 * (place / 5)),
-        1 => (96 * place, 0),
-        2 => (0, 64 * place),
-        3 => (96 * place, 96 * place),
-        _ => (d.rng.between(-400, 400), d.rng.between(-400, 400)),
-    };
-    let (width, height) = if layout < 4 && d.rng.percent(85) {
-        (64, 32)
-    } else {
-        (d.rng.between(0, 160), d.rng.between(0, 160))
-    };
+    let (x, y) =
+        spot(layout, place).unwrap_or_else(|| (d.rng.between(-400, 400), d.rng.between(-400, 400)));
+    let (width, height) = d.size(layout);
     [x, y, x + width, y + height]
 }
 
 fn page(d: &mut Draw, count: usize, layer: (u64, u64)) -> Page {
     let layout = d.rng.below(5);
-    // A layout with holes: the places are spread, so that no field stands straight ahead and ties come up.
-    let mut places: Vec<i64> = (0..2 * count as i64).collect();
-    if d.rng.percent(60) {
-        d.rng.shuffle(&mut places);
-    }
-    let ids = ids(d, count);
+    let places = d.places(count);
+    let ids = d.ids(count);
     let fields = ids.into_iter().zip(places);
     fields
         .map(|(id, place)| Field {

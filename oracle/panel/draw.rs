@@ -1,13 +1,5 @@
 //! Words and forms of the pass program, drawn at random.
-use crate::rng::Rng;
-
-pub struct Draw {
-    pub rng: Rng,
-    /// How many of a hundred words are drawn from outside the domain.
-    pub malice: usize,
-    /// Most ids are drawn from the first so many: the fewer, the oftener they meet.
-    pub pool: usize,
-}
+pub use super::domain::Draw;
 
 /// How far a coordinate or a size may go, in 32nds of a point.
 pub const BOUND: i64 = 524_288;
@@ -33,44 +25,6 @@ const FAR: [&str; 12] = [
 ];
 
 impl Draw {
-    pub fn bad(&mut self) -> bool {
-        self.rng.percent(self.malice)
-    }
-
-    pub fn id(&mut self) -> u64 {
-        if self.bad() {
-            return 0;
-        }
-        match self.rng.below(20) {
-            0 => self.rng.pick(&[u64::MAX, 1 << 63, 1 << 32, 0xFFFF_FFFF]),
-            1 | 2 => self.rng.below(60) as u64 + 1,
-            _ => self.rng.below(self.pool) as u64 + 1,
-        }
-    }
-
-    /// A code up to its last, or past it.
-    fn code(&mut self, last: u64) -> u64 {
-        if self.bad() {
-            return self.rng.pick(&[last + 1, last + 2, 256, 1 << 32, u64::MAX]);
-        }
-        if self.rng.percent(10) {
-            return last;
-        }
-        self.rng.below(last as usize + 1) as u64
-    }
-
-    pub fn order(&mut self) -> u64 {
-        if self.rng.percent(60) {
-            1
-        } else {
-            self.code(4)
-        }
-    }
-
-    pub fn layer(&mut self) -> String {
-        format!("{} {}", self.order(), self.id())
-    }
-
     /// A coordinate: on a coarse raster, so that edges meet, or anywhere.
     pub fn coordinate(&mut self) -> i64 {
         match self.rng.below(16) {

@@ -8,6 +8,8 @@
 //!     panel once SIDE NAME TIMES      one side alone on one of the timed sessions, so often, for an instruction count
 //!     panel names                     the names of the timed sessions
 //!     panel stack                     how deep the port's stack gets
+#[path = "../compare/domain.rs"]
+mod domain;
 mod draw;
 mod fuzz;
 mod kinds;

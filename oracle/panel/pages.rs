@@ -1,4 +1,5 @@
 //! Realistic sessions: pages of fields, passed over again and again with keys, arrows, requests and a confirm box.
+use super::domain::spot;
 use super::draw::{BOUND, Draw, listed};
 
 struct Field {
@@ -15,43 +16,23 @@ const BACK: &str = "(key 5 1 4)";
 const ESCAPE: &str = "(key 4 1 0)";
 const ARROWS: [&str; 4] = ["(key 0 1 0)", "(key 1 1 0)", "(key 2 1 0)", "(key 3 1 0)"];
 
-/// Ids that are small, or spread like hashes.
-fn ids(d: &mut Draw, count: usize) -> Vec<u64> {
-    if d.rng.percent(70) {
-        let mut all: Vec<u64> = (1..=count as u64).collect();
-        d.rng.shuffle(&mut all);
-        all
-    } else {
-        (0..count).map(|_| d.rng.next() | 1).collect()
-    }
-}
-
-/// A rectangle of a layout: a cell of a table, a place of a row or a column, a diagonal, or anywhere, also at the bounds.
+/// A rectangle of a layout, or anywhere, also at the bounds.
 fn rect(d: &mut Draw, layout: usize, place: i64) -> [i64; 4] {
-    let (x, y) = match layout {
-        0 => (96 * (place % 5), 64 * (place / 5)),
-        1 => (96 * place, 0),
-        2 => (0, 64 * place),
-        3 => (96 * place, 96 * place),
-        4 => (d.rng.between(-400, 400), d.rng.between(-400, 400)),
-        _ => (d.coordinate(), d.coordinate()),
-    };
-    let (width, height) = if layout < 4 && d.rng.percent(85) {
-        (64, 32)
-    } else {
-        (d.rng.between(0, 160), d.rng.between(0, 160))
-    };
+    let (x, y) = spot(layout, place).unwrap_or_else(|| {
+        if layout == 4 {
+            (d.rng.between(-400, 400), d.rng.between(-400, 400))
+        } else {
+            (d.coordinate(), d.coordinate())
+        }
+    });
+    let (width, height) = d.size(layout);
     [x, y, (x + width).min(BOUND), (y + height).min(BOUND)]
 }
 
 fn page(d: &mut Draw, count: usize, layer: (u64, u64)) -> Page {
     let layout = d.rng.below(6);
-    // A layout with holes: the places are spread, so that no field stands straight ahead and ties come up.
-    let mut places: Vec<i64> = (0..2 * count as i64).collect();
-    if d.rng.percent(60) {
-        d.rng.shuffle(&mut places);
-    }
-    let ids = ids(d, count);
+    let places = d.places(count);
+    let ids = d.ids(count);
     let fields = ids.into_iter().zip(places);
     fields
         .map(|(id, place)| Field {
@@ -200,7 +181,7 @@ pub fn grid(d: &mut Draw) -> Vec<String> {
     let (wide, high) = (d.rng.between(0, 90), d.rng.between(0, 90));
     let step = d.rng.pick(&[(96, 96), (96, 64), (64, 96), (40, 40)]);
     let places = (0..rows as i64).flat_map(|r| (0..columns as i64).map(move |c| (c, r)));
-    let ids = ids(d, rows * columns);
+    let ids = d.ids(rows * columns);
     let page: Page = places
         .zip(ids)
         .map(|((column, row), id)| {

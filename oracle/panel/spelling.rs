@@ -1,4 +1,5 @@
 //! Lines with one thing wrong: a word, a space, a bracket, a letter.
+use super::domain::respell;
 use super::draw::Draw;
 
 pub fn misspelt(d: &mut Draw) -> Vec<String> {
@@ -85,15 +86,12 @@ fn other_words(d: &mut Draw, form: &str) -> String {
     let mut words: Vec<String> = form.split(' ').map(str::to_owned).collect();
     let place = d.rng.below(words.len());
     let word = d.rng.pick(&ODD).to_owned();
-    match d.rng.below(9) {
-        0 => words.insert(place, word),
-        1 => drop(words.remove(place)),
-        2 => words.push(word),
-        3 => words[place] = words[place].to_uppercase(),
-        4 => words[place] = format!("0{}", words[place]),
-        5 => words[place].push_str(&word),
-        6 => return format!("{form}{}{form}", d.rng.pick(&["", " ", "\r"])),
-        _ => words[place] = brackets_kept(&words[place], &word),
+    let how = d.rng.below(9);
+    if how == 6 {
+        return format!("{form}{}{form}", d.rng.pick(&["", " ", "\r"]));
+    }
+    if !respell(&mut words, place, &word, how) {
+        words[place] = brackets_kept(&words[place], &word);
     }
     words.join(" ")
 }
