@@ -3,6 +3,7 @@ pub mod Methods
 pub mod Calls
 pub mod Kept
 pub mod Modal
+pub mod Hits
 pub mod Under
 pub mod Steps
 pub mod Out

@@ -1,25 +1,28 @@
 -- The rule by which a box is opened keeps every field under it out, and sets the box's layer: where none of its calls is refused. Assumes nothing.
-use Rattle.std.specs.Prelude.{ℕ, Bool, true, false, not, ◌||◌, ◌≡◌, Option, Some, List, [], ◌∷◌, take, eqb}
+use Rattle.std.specs.Prelude.{ℕ, Bool, true, false, not, ◌||◌, ◌≡◌, ◌≤◌, Option, Some, List, [], ◌∷◌, take, eqb}
 use mathlib.Core.Path.{refl, sym, ap, ◌∙◌, subst}
 use mathlib.Core.Bool.{true≢false, false≢true, and-false}
 use native.Mathlib.Omega.{arith}
 use borrow.Author.Tests.{eqb-true}
 use Rattle.std.proofs.lemmas.Bool.{le-leb}
+use Rattle.std.specs.List.{list_all}
+use Rattle.emath.specs.declared.Pos2.{Pos2}
 use Rattle.layers.specs.declared.LayerId.{LayerId}
 use Rattle.used.specs.Used.{elem}
 use Rattle.focus_maps.specs.Egui.{Focus, is}
 use Rattle.focus_rules.specs.Rules.{id_or_nothing}
 use Rattle.memory_rules.specs.declared.Memory.{Memory}
 use Rattle.memory_rules.specs.State.{nav_of}
-use Rattle.memory_rules.specs.Memory.{is_allowed}
+use Rattle.memory_rules.specs.Memory.{is_allowed, layer_id_at}
 use Rattle.memory_rules.specs.Calls.{Call, Interest, IgnoreFocus, RequestFocusNextFrame, SetModalLayer, done_by}
 use Rattle.confirm_box.specs.KeptOut.{is_taken, kept_out, lets_in, run, none_is}
-use Rattle.confirm_box.specs.Modal.{in_force, keeps_under}
-use Rattle.confirm_box.specs.Rule.{Box, Opens, Spread, Spreads, opening, spread, ignoring, wanting, disturbs, is_refused}
-use Rattle.confirm_box.proofs.Egui.{neither}
+use Rattle.confirm_box.specs.Modal.{in_force, is_set, set_in_every_pass, now_through, asks_by_rule, has_ended, keeps_under}
+use Rattle.confirm_box.specs.Rule.{Box, Opens, Spread, Spreads, opening, after_opening, keeps_to_rule, spread, ignoring, wanting, disturbs, is_refused}
+use Rattle.confirm_box.proofs.Egui.{both, neither}
+use Rattle.confirm_box.proofs.Hits.{hit_not_lower}
 use Rattle.confirm_box.proofs.Calls.{focus_in, at_end}
 use Rattle.confirm_box.proofs.Kept.{another, Unfocused, ignored}
-use Rattle.confirm_box.proofs.Under.{Flags, Stays, at_least, modal_means, is_plain, plain, set_after, under_kept}
+use Rattle.confirm_box.proofs.Under.{Flags, Stays, at_least, modal_means, is_plain, plain, set_after, under_kept, rule_kept, shown_in_force, flags_through}
 use Rattle.confirm_box.proofs.Steps.{Quiet, both_quiet, quiet_allowed, ignoring_quiet, run_append, none_first, none_split, each_keeps, set_quiet, next_taken, want_last, next_after, id_taken}
 use Rattle.confirm_box.proofs.Out.{Passed, Out, call_passed, call_out, shut}
 
@@ -93,6 +96,19 @@ module _ (p : ℕ) where
       go true e h more = each_keeps IgnoreFocus (λ n. Out p (focus_in n)) (λ id n o. call_out p n (IgnoreFocus id) (ignore_quiet n id) o) ids after (here (eqb-true id p e), passed)
       go false e h more = more h
 
+second : (x y : Bool) → x ≡ false → (x || y) ≡ true → y ≡ true
+second true y h k = absurd (true≢false h)
+second false y h k = k
+
+each_of : (P : ℕ → Bool) (ids : List ℕ) (p : ℕ) → list_all P ids ≡ true → elem ids p ≡ true → P p ≡ true
+unfolding elem
+each_of P [] p h e = absurd (false≢true e)
+each_of P (id ∷ ids) p h e = go (eqb id p) refl e (each_of P ids p (both (P id) (list_all P ids) h).1)
+  where
+    go : (b : Bool) → eqb id p ≡ b → (b || elem ids p) ≡ true → (elem ids p ≡ true → P p ≡ true) → P p ≡ true
+    go true q e more = rw (← eqb-true id p q) (both (P id) (list_all P ids) h).0
+    go false q e more = more e
+
 -- ---- the whole rule
 module _ (m : Memory) (b : Box) (o : Opens m b) where
   -- after the ids that are freed, the modal layer, the box's interest calls, and the ids under it
@@ -154,12 +170,16 @@ module _ (m : Memory) (b : Box) (o : Opens m b) where
       before : Flags b.layer.order (in_force b.layer.order m) false (focus_in freed)
       before = (λ e. ap (at_least b.layer.order) freed_quiet.modal ∙ modal_means b.layer.order (nav_of m).top_modal_layer ∙ e, λ e. absurd (false≢true e))
 
-  opened_set : Set (run m (opening b))
+  pub opened_set : Set (run m (opening b))
   unfolding is_plain
   opened_set =
       let wants = each_keeps (λ id. Interest id b.layer) Set (λ id k f. plain_set k (Interest id b.layer) refl f) b.fields set first_set in
       let ignores = each_keeps IgnoreFocus Set (λ id k f. plain_set k (IgnoreFocus id) refl f) b.under wanted wants in
       rw opened_is (plain_set gone (RequestFocusNextFrame b.focus) refl ignores)
+
+  -- nothing need be in force before the first end that is taken
+  set_now : Flags b.layer.order false true (focus_in (after_opening m b))
+  set_now = (λ e. absurd (false≢true e), opened_set.1)
 
   -- ---- a field under it
   module _ (p : ℕ) (under : elem b.under p ≡ true) (other : elem b.fields p ≡ false) where
@@ -170,6 +190,28 @@ module _ (m : Memory) (b : Box) (o : Opens m b) where
 
     pub opened_stays : (calls : List Call) → keeps_under b.layer.order p (in_force b.layer.order m) true (run m (opening b)) calls ≡ true → (n : ℕ) → Stays b.layer.order p (run (run m (opening b)) (take n calls))
     opened_stays calls h n = under_kept b.layer.order p calls (run m (opening b)) (in_force b.layer.order m) true opened_kept opened_set h n
+
+    -- by the rule
+    asked_by_rule : (calls : List Call) → keeps_to_rule b (after_opening m b) calls ≡ true
+        → asks_by_rule b.layer.order p false (after_opening m b) calls ≡ true
+    asked_by_rule calls h =
+        let (set, asked) = both _ _ h in
+        second (elem b.fields p) _ other (each_of (λ (q : ℕ). elem b.fields q || asks_by_rule b.layer.order q false (after_opening m b) calls) b.under p asked under)
+
+    pub ruled_stays : (calls : List Call) → keeps_to_rule b (after_opening m b) calls ≡ true
+        → (n : ℕ) → Stays b.layer.order p (run (after_opening m b) (take n calls))
+    ruled_stays calls h n =
+        let (set, asked) = both _ _ h in
+        rule_kept b.layer.order p calls (after_opening m b) true opened_kept set_now set (asked_by_rule calls h) n
+
+  -- touches, from the first end that is taken on
+  pub ruled_hits : (calls : List Call) → keeps_to_rule b (after_opening m b) calls ≡ true
+      → (n : ℕ) (pos : Pos2) (layer : LayerId) → has_ended (after_opening m b) (take n calls) ≡ true
+      → layer_id_at (run (after_opening m b) (take n calls)) pos ≡ Some layer → b.layer.order ≤ layer.order
+  ruled_hits calls h n pos layer e =
+      let (set, asked) = both _ _ h in
+      hit_not_lower b.layer.order (run (after_opening m b) (take n calls))
+      (shown_in_force b.layer.order calls (after_opening m b) false true set_now set n e) pos layer
 
 pub opens : (m : Memory) (b : Box) → Opens m b
     → ((p : ℕ) → elem b.under p ≡ true → elem b.fields p ≡ false → kept_out (run m (opening b)) p ≡ true) × (id_or_nothing (nav_of (run m (opening b))).id_next_frame ≡ Some b.focus)
@@ -206,3 +248,24 @@ module _ (m : Memory) (p : ℕ) (s : Spread) (o : Spreads m p s) where
       let passed = at_end (λ k. Passed p (focus_in k)) (disturbs p) (call_passed p) s.between asked first a in
       let out = at_end (λ k. Out p (focus_in k)) (disturbs p) (call_out p) s.after dropped (ignored p between o.ids.0, call_passed p between (IgnoreFocus p) d passed) c in
       rw spread_is (shut p after s.focus (another p s.focus true refl (rw taken at e)) taken out)
+
+  -- ---- and the rule after it, where these calls or those before them set the box's layer
+  module _ (order : ℕ) where
+    abbrev now : Bool
+    now = now_through order (is_set order m) m (spread p s)
+
+    spread_set : Flags order false now (focus_in (run m (spread p s)))
+    spread_set = flags_through order (spread p s) m false (is_set order m)
+        (λ e. absurd (false≢true e), λ e. modal_means order (nav_of m).top_modal_layer_current_frame ∙ e)
+
+    pub spread_stays : (calls : List Call) → set_in_every_pass order now (run m (spread p s)) calls ≡ true
+        → asks_by_rule order p false (run m (spread p s)) calls ≡ true
+        → (n : ℕ) → Stays order p (run (run m (spread p s)) (take n calls))
+    spread_stays calls h a n = rule_kept order p calls (run m (spread p s)) now spread_kept spread_set h a n
+
+    pub spread_hits : (calls : List Call) → set_in_every_pass order now (run m (spread p s)) calls ≡ true
+        → (n : ℕ) (pos : Pos2) (layer : LayerId) → has_ended (run m (spread p s)) (take n calls) ≡ true
+        → layer_id_at (run (run m (spread p s)) (take n calls)) pos ≡ Some layer → order ≤ layer.order
+    spread_hits calls h n pos layer e =
+        hit_not_lower order (run (run m (spread p s)) (take n calls))
+        (shown_in_force order calls (run m (spread p s)) false now spread_set h n e) pos layer

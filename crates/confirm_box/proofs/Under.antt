@@ -20,9 +20,9 @@ use Rattle.focus_maps.specs.Egui.{Focus, focused, with_frames, with_cache, hande
 use Rattle.memory_rules.specs.declared.Memory.{Memory}
 use Rattle.memory_rules.specs.State.{nav_of}
 use Rattle.memory_rules.specs.Memory.{is_allowed, stays_modal, is_below, ended_of, modal_set}
-use Rattle.memory_rules.specs.Calls.{Call, Begin, Interest, End, SetFocusLockFilter, RequestFocus, RequestFocusNextFrame, SurrenderFocus, IgnoreFocus, MoveFocus, SetModalLayer, StopTextInput, ResetAreas, InterruptIme, OpenPopupAt, KeepPopupOpen, ClosePopup, TogglePopup, CloseAllPopups, SetEverythingIsVisible, SetState, MoveToTop, SetSublayer, done_by}
-use Rattle.confirm_box.specs.KeptOut.{is_focused, is_taken, asks_for, is_let_through, kept_out, lets_in, run}
-use Rattle.confirm_box.specs.Modal.{is_modal_of, in_force, is_set, ends_pass, now_after, is_lower, set_in_every_pass, asks_from_below, keeps_under}
+use Rattle.memory_rules.specs.Calls.{Call, Interest, End, SetModalLayer, done_by}
+use Rattle.confirm_box.specs.KeptOut.{is_focused, is_taken, asks_for, is_let_through, kept_out, lets_in, none_is, run}
+use Rattle.confirm_box.specs.Modal.{is_modal_of, in_force, is_set, ends_pass, now_after, is_lower, set_in_every_pass, asks_from_below, now_through, asks_by_rule, has_ended, keeps_under}
 use Rattle.confirm_box.proofs.Egui.{both}
 use Rattle.confirm_box.proofs.Methods.{Moves, all_heard, ended, ruled_keeps, letgo_keeps}
 use Rattle.confirm_box.proofs.Calls.{focus_in, focus_after, leaves, Methods, keeps}
@@ -149,67 +149,40 @@ module _ (order : ℕ) (m : Memory) (last now : Bool) where
   pub plain : (call : Call) → is_plain call ≡ true → Flags order last now (focus_in m) → Flags order last now (focus_in (done_by call m).memory)
   plain call ok k = keeps m (Flags order last now) _ (flag_moves order last now) flag_methods call ok k
 
+-- ---- every call leaves what the flags after it say
+module _ (order : ℕ) (m : Memory) (last now : Bool) (k : Flags order last now (focus_in m)) where
+  -- an end that is refused ends no pass
+  end_flags_after : (used : List Candidate) → Flags order (cond (is_taken m (End used)) now last) (cond (is_taken m (End used)) false now) (focus_in (done_by (End used) m).memory)
+  unfolding done_by ended_of end_of focus_after
+  end_flags_after used = subst (Flags order (cond (is_taken m (End used)) now last) (cond (is_taken m (End used)) false now)) (sym (leaves m (End used)).1) (go (used_refusal usedLimit used))
+    where
+      go : (r : ℕ) → Flags order (cond (eqb r 0) now last) (cond (eqb r 0) false now) (kept r (focus_in m) (end_pass (focus_in m) used))
+      go zero = end_flags order last now used (focus_in m) k
+      go (suc r) = rw (suc_some r) k
+
+  pub flags_after : (call : Call) → Flags order (cond (ends_pass m call) now last) (now_after order m now call) (focus_in (done_by call m).memory)
+  unfolding is_plain
+  flags_after (End used) = end_flags_after used
+  flags_after (SetModalLayer layer) = set_after order m layer last now k
+  flags_after call = plain order m last now call refl k
+
+  -- an interest call of a lower Order is turned away
+  want_turned : (p id : ℕ) (layer : LayerId) → (last && ltb layer.order order) ≡ true → lets_in p m (Interest id layer) ≡ false
+  unfolding lets_in
+  want_turned p id layer e =
+      let (l, o) = both _ _ e in
+      let away = lower_away order m layer (sym (modal_means order (nav_of m).top_modal_layer) ∙ k.0 l) o in
+      rw (away, and-false (eqb id p)) (and-false (is_taken m (Interest id layer)))
+
+  lets_nobody : (p : ℕ) (call : Call) → (is_lower order last call || not (lets_in p m call)) ≡ true → lets_in p m call ≡ false
+  lets_nobody p (Interest id layer) h = go (last && ltb layer.order order) refl h
+    where
+      go : (b : Bool) → (last && ltb layer.order order) ≡ b → (b || not (lets_in p m (Interest id layer))) ≡ true → lets_in p m (Interest id layer) ≡ false
+      go true e h = want_turned p id layer e
+      go false e h = not-true (lets_in p m (Interest id layer)) h
+  lets_nobody p call h = not-true (lets_in p m call) h
+
 module _ (order p : ℕ) where
-  -- ---- a call: it lets nobody in, and leaves what the flags after it say
-  module _ (m : Memory) (last now : Bool) (k : Flags order last now (focus_in m)) where
-    abbrev Goes : Call → Type 0
-    Goes call = (is_lower order last call || not (lets_in p m call)) ≡ true → (lets_in p m call ≡ false) × Flags order (cond (ends_pass m call) now last) (now_after order m now call) (focus_in (done_by call m).memory)
-
-    abbrev Left : Call → Type 0
-    Left call = (lets_in p m call ≡ false) × Flags order last now (focus_in (done_by call m).memory)
-
-    on : (call : Call) → is_plain call ≡ true → not (lets_in p m call) ≡ true → Left call
-    on call ok h = (not-true (lets_in p m call) h, plain order m last now call ok k)
-
-    -- one of a lower Order is turned away
-    want_goes : (id : ℕ) (layer : LayerId) → Goes (Interest id layer)
-    unfolding lets_in is_plain
-    want_goes id layer h = go (last && ltb layer.order order) refl h
-      where
-        plainly : Flags order last now (focus_in (done_by (Interest id layer) m).memory)
-        plainly = plain order m last now (Interest id layer) refl k
-
-        lower : (last && ltb layer.order order) ≡ true → is_allowed m layer ≡ false
-        lower e = let (l, o) = both _ _ e in lower_away order m layer (sym (modal_means order (nav_of m).top_modal_layer) ∙ k.0 l) o
-
-        go : (b : Bool) → (last && ltb layer.order order) ≡ b → (b || not (lets_in p m (Interest id layer))) ≡ true → Left (Interest id layer)
-        go true e h = (rw (lower e, and-false (eqb id p)) (and-false (is_taken m (Interest id layer))), plainly)
-        go false e h = (not-true (lets_in p m (Interest id layer)) h, plainly)
-
-    -- an end that is refused ends no pass
-    end_flags_after : (used : List Candidate) → Flags order (cond (is_taken m (End used)) now last) (cond (is_taken m (End used)) false now) (focus_in (done_by (End used) m).memory)
-    unfolding done_by ended_of end_of focus_after
-    end_flags_after used = subst (Flags order (cond (is_taken m (End used)) now last) (cond (is_taken m (End used)) false now)) (sym (leaves m (End used)).1) (go (used_refusal usedLimit used))
-      where
-        go : (r : ℕ) → Flags order (cond (eqb r 0) now last) (cond (eqb r 0) false now) (kept r (focus_in m) (end_pass (focus_in m) used))
-        go zero = end_flags order last now used (focus_in m) k
-        go (suc r) = rw (suc_some r) k
-
-    goes_on : (call : Call) → Goes call
-    unfolding is_plain
-    goes_on (Begin events) h = on (Begin events) refl h
-    goes_on (Interest id layer) h = want_goes id layer h
-    goes_on (End used) h = (not-true (lets_in p m (End used)) h, end_flags_after used)
-    goes_on (SetFocusLockFilter id filter) h = on (SetFocusLockFilter id filter) refl h
-    goes_on (RequestFocus id) h = on (RequestFocus id) refl h
-    goes_on (RequestFocusNextFrame id) h = on (RequestFocusNextFrame id) refl h
-    goes_on (SurrenderFocus id) h = on (SurrenderFocus id) refl h
-    goes_on (IgnoreFocus id) h = on (IgnoreFocus id) refl h
-    goes_on (MoveFocus direction) h = on (MoveFocus direction) refl h
-    goes_on (SetModalLayer layer) h = (not-true (lets_in p m (SetModalLayer layer)) h, set_after order m layer last now k)
-    goes_on StopTextInput h = on StopTextInput refl h
-    goes_on ResetAreas h = on ResetAreas refl h
-    goes_on InterruptIme h = on InterruptIme refl h
-    goes_on (OpenPopupAt id pos) h = on (OpenPopupAt id pos) refl h
-    goes_on (KeepPopupOpen id) h = on (KeepPopupOpen id) refl h
-    goes_on (ClosePopup id) h = on (ClosePopup id) refl h
-    goes_on (TogglePopup id) h = on (TogglePopup id) refl h
-    goes_on CloseAllPopups h = on CloseAllPopups refl h
-    goes_on (SetEverythingIsVisible all) h = on (SetEverythingIsVisible all) refl h
-    goes_on (SetState layer s) h = on (SetState layer s) refl h
-    goes_on (MoveToTop layer) h = on (MoveToTop layer) refl h
-    goes_on (SetSublayer parent child) h = on (SetSublayer parent child) refl h
-
   -- ---- lists of calls
   abbrev pub Stays : Memory → Type 0
   Stays m = (kept_out m p ≡ true) × (is_focused m p ≡ false)
@@ -221,8 +194,8 @@ module _ (order p : ℕ) where
   under_kept [] m last now k f h (suc n) = (k, kept_unfocused p m k)
   under_kept (call ∷ calls) m last now k f h (suc n) =
       let (a, b) = both _ _ h in
-      let (ok, g) = goes_on m last now f call a in
-      under_kept calls (done_by call m).memory (cond (ends_pass m call) now last) (now_after order m now call) (call_kept p m call k ok) g b n
+      let kept = call_kept p m call k (lets_nobody order m last now f p call a) in
+      under_kept calls (done_by call m).memory (cond (ends_pass m call) now last) (now_after order m now call) kept (flags_after order m last now f call) b n
 
   pub box_kept : (m : Memory) (calls : List Call) → kept_out m p ≡ true → keeps_under order p (in_force order m) (is_set order m) m calls ≡ true → (n : ℕ) → Stays (run m (take n calls))
   box_kept m calls k h = under_kept calls m (in_force order m) (is_set order m) k (λ e. modal_means order (nav_of m).top_modal_layer ∙ e, λ e. modal_means order (nav_of m).top_modal_layer_current_frame ∙ e) h
@@ -248,3 +221,61 @@ module _ (order p : ℕ) where
   pub short_kept : (m : Memory) (calls : List Call) → kept_out m p ≡ true → in_force order m ≡ true → set_in_every_pass order (is_set order m) m calls ≡ true → list_all (asks_from_below order p) calls ≡ true
       → (n : ℕ) → Stays (run m (take n calls))
   short_kept m calls k f h a = box_kept m calls k (rw f (short_keeps calls m (is_set order m) h a))
+
+  -- ---- by the rule
+  same_shown : (e now shown : Bool) → (not e || now) ≡ true → cond e now shown ≡ (shown || e)
+  same_shown true now true h = h
+  same_shown true now false h = h
+  same_shown false now true h = refl
+  same_shown false now false h = refl
+
+  rule_keeps : (calls : List Call) (m : Memory) (shown now : Bool)
+      → set_in_every_pass order now m calls ≡ true → asks_by_rule order p shown m calls ≡ true
+      → keeps_under order p shown now m calls ≡ true
+  unfolding set_in_every_pass asks_by_rule keeps_under lets_in
+  rule_keeps [] m shown now h k = refl
+  rule_keeps (call ∷ calls) m shown now h k =
+      let (set, rest) = both (not (ends_pass m call) || now) _ h in
+      let (asked, later) = both (not (asks_for p call) || is_lower order shown call) _ k in
+      rw (
+        below_lets_nobody (asks_for p call) (is_lower order shown call) (is_taken m call) (is_let_through m call) asked,
+        same_shown (ends_pass m call) now shown set,
+      )
+      (rule_keeps calls (done_by call m).memory (shown || ends_pass m call) (now_after order m now call) rest later)
+
+  pub rule_kept : (calls : List Call) (m : Memory) (now : Bool)
+      → kept_out m p ≡ true → Flags order false now (focus_in m)
+      → set_in_every_pass order now m calls ≡ true → asks_by_rule order p false m calls ≡ true
+      → (n : ℕ) → Stays (run m (take n calls))
+  rule_kept calls m now k f h a = under_kept calls m false now k f (rule_keeps calls m false now h a)
+
+-- ---- what is set before each end that is taken is in force after the first of them
+in_force_now : (order : ℕ) (m : Memory) (last now : Bool) → Flags order last now (focus_in m)
+    → (last || false) ≡ true → in_force order m ≡ true
+in_force_now order m last now f e =
+    sym (modal_means order (nav_of m).top_modal_layer) ∙ f.0 (sym (or-false last) ∙ e)
+
+ended_shows : (last now e none : Bool) → (not e || now) ≡ true → (last || not (not e && none)) ≡ true → (cond e now last || not none) ≡ true
+ended_shows last now true none h k = rw h refl
+ended_shows last now false none h k = k
+
+pub shown_in_force : (order : ℕ) (calls : List Call) (m : Memory) (last now : Bool)
+    → Flags order last now (focus_in m) → set_in_every_pass order now m calls ≡ true
+    → (n : ℕ) → (last || has_ended m (take n calls)) ≡ true → in_force order (run m (take n calls)) ≡ true
+unfolding run none_is set_in_every_pass
+shown_in_force order calls m last now f h zero e = in_force_now order m last now f e
+shown_in_force order [] m last now f h (suc n) e = in_force_now order m last now f e
+shown_in_force order (call ∷ calls) m last now f h (suc n) e =
+    let (set, rest) = both (not (ends_pass m call) || now) _ h in
+    shown_in_force order calls (done_by call m).memory (cond (ends_pass m call) now last)
+    (now_after order m now call) (flags_after order m last now f call) rest n
+    (ended_shows last now (ends_pass m call) (none_is ends_pass (done_by call m).memory (take n calls)) set e)
+
+-- ---- a layer that is set by the end of a list
+pub flags_through : (order : ℕ) (calls : List Call) (m : Memory) (last now : Bool)
+    → Flags order last now (focus_in m) → Flags order false (now_through order now m calls) (focus_in (run m calls))
+unfolding run now_through
+flags_through order [] m last now f = (λ e. absurd (false≢true e), f.1)
+flags_through order (call ∷ calls) m last now f =
+    flags_through order calls (done_by call m).memory (cond (ends_pass m call) now last)
+    (now_after order m now call) (flags_after order m last now f call)

@@ -1,5 +1,7 @@
--- When an id is kept out of the focus, which calls can let it in, and lists of calls. egui has no name for it: it is said of what its Focus holds (memory/mod.rs, lines 503 to 538). Definitions only.
-use Rattle.std.specs.Prelude.{ℕ, Bool, true, false, not, ◌&&◌, List, [], ◌∷◌, eqb}
+-- When an id is kept out of the focus, which calls can let it in, and lists of calls. egui has no
+-- name for it: it is said of what its Focus holds (memory/mod.rs, lines 503 to 538). Definitions
+-- only.
+use Rattle.std.specs.Prelude.{ℕ, ◌≡◌, Bool, true, false, not, ◌&&◌, List, [], ◌∷◌, eqb, take}
 use Rattle.focus_rules.specs.Rules.{id_or_nothing}
 use Rattle.focus_cache.specs.Cache.{has_id}
 use Rattle.focus.specs.Focus.{held_of}
@@ -49,7 +51,8 @@ is_let_through m call = true
 unfoldable pub lets_in : ℕ → Memory → Call → Bool
 lets_in p m call = is_taken m call && (asks_for p call && is_let_through m call)
 
--- the calls after which p may be focused though it was ignored: a begin, any interest call that is let through, whatever its id, and a request of it
+-- the calls after which p may be focused though it was ignored: a begin, any interest call that is
+-- let through, whatever its id, and a request of it
 abbrev pub may_bring : ℕ → Memory → Call → Bool
 may_bring p m (Begin events) = true
 may_bring p m (Interest id layer) = is_allowed m layer
@@ -68,3 +71,8 @@ run m (call ∷ calls) = run (done_by call m).memory calls
 unfoldable pub none_is : (Memory → Call → Bool) → Memory → List Call → Bool
 none_is such m [] = true
 none_is such m (call ∷ calls) = not (such m call) && none_is such (done_by call m).memory calls
+
+-- after each call of a list, from this state, p is kept out, and not focused
+abbrev pub StaysOut : ℕ → Memory → List Call → Type 0
+StaysOut p m calls =
+    (n : ℕ) → (kept_out (run m (take n calls)) p ≡ true) × (is_focused (run m (take n calls)) p ≡ false)

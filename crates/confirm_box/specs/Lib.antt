@@ -3,3 +3,4 @@ pub mod Modal
 pub mod Rule
 pub mod Instance
 pub mod Needed
+pub mod NeededOpening

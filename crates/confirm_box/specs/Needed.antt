@@ -1,5 +1,6 @@
--- What each part of a definition is needed for: short lists of calls, each with the part alone in the way, that let field 12 in. Definitions only.
-use Rattle.std.specs.Prelude.{ℕ, Bool, true, false, not, ◌&&◌, List, [], ◌∷◌}
+-- What each part of a definition is needed for: short lists of calls, in each of which one part
+-- alone is in the way, and which let field 12 in. Definitions only.
+use Rattle.std.specs.Prelude.{ℕ, zero, suc, ◌≡◌, Bool, true, false, not, ◌&&◌, List, [], ◌∷◌, map, replicate}
 use Rattle.std.specs.Float.{binary32}
 use Rattle.std.specs.Float.Ieee.{of_bits}
 use Rattle.std.specs.List.{list_all}
@@ -12,7 +13,7 @@ use Rattle.memory_rules.specs.declared.Memory.{Memory}
 use Rattle.memory_rules.specs.State.{new_memory}
 use Rattle.memory_rules.specs.Calls.{Call, Begin, Interest, End, RequestFocus, RequestFocusNextFrame, IgnoreFocus, MoveFocus, SetModalLayer, done_by}
 use Rattle.confirm_box.specs.KeptOut.{is_focused, waits, was_last, is_cached, kept_out, lets_in, may_focus, run, none_is}
-use Rattle.confirm_box.specs.Modal.{in_force, is_set, set_in_every_pass, asks_from_below, keeps_under}
+use Rattle.confirm_box.specs.Modal.{in_force, is_set, set_in_every_pass, asks_from_below, asks_by_rule, keeps_under}
 use Rattle.confirm_box.specs.Instance.{page, box}
 
 -- from a new memory: calls, and more calls after them
@@ -35,7 +36,8 @@ in_box id = Interest id box.layer
 abbrev pub on_page : ℕ → Call
 on_page id = Interest id page
 
--- ---- the four parts: in each case one of them alone says that 12 is not kept out, and it is focused without one of the three calls
+-- ---- the four parts: in each case one of them alone says that 12 is not kept out, and it is
+-- focused without one of the three calls
 abbrev pub parts : Memory → List Bool
 parts m = is_focused m 12 ∷ waits m 12 ∷ was_last m 12 ∷ is_cached m 12 ∷ []
 
@@ -60,7 +62,8 @@ three = on_page 12 ∷ RequestFocus 12 ∷ RequestFocusNextFrame 12 ∷ []
 abbrev pub lets_it_in : Call → Bool
 lets_it_in call = lets_in 12 new_memory call && not (kept_out (done_by call new_memory).memory 12)
 
--- ---- what a program keeps to while a box of Order 2 is open: in each case the calls do not keep to it, for one reason, in short or at length, and they let 12 in, which was kept out
+-- ---- what a program keeps to while a box of Order 2 is open: in each case the calls do not keep
+-- to it, for one reason
 abbrev pub used : List Candidate
 used = []
 
@@ -78,36 +81,74 @@ set_box = SetModalLayer box.layer
 abbrev pub in_force_first : List Call
 in_force_first = set_box ∷ End used ∷ []
 
-abbrev pub clauses : List Case
-clauses =
+-- of so many tests the one at this place alone is false
+unfoldable pub alone : ℕ → ℕ → List Bool
+alone zero place = []
+alone (suc n) zero = false ∷ replicate n true
+alone (suc n) (suc place) = true ∷ alone n place
+
+-- each case stands behind the place of the one of its n tests that is false
+abbrev pub OneAlone : {A : Type 0} → ℕ → (A → List Bool) → List (ℕ × A) → Type 0
+OneAlone n tests cases = map (λ c. tests c.1) cases ≡ map (λ c. alone n c.0) cases
+
+-- in short: a modal layer of its Order or a higher one is in force, one is set in every pass, and
+-- only interest calls with layers of a lower Order ask for 12
+abbrev pub in_short : Case → List Bool
+in_short c =
+    in_force 2 (first_of c)
+    ∷ set_in_every_pass 2 (is_set 2 (first_of c)) (first_of c) c.calls
+    ∷ list_all (asks_from_below 2 12) c.calls ∷ []
+
+abbrev pub short_cases : List (ℕ × Case)
+short_cases =
+    -- a lower layer is in force
+    (0, then (SetModalLayer (layer_of 0) ∷ End used ∷ []) (on_page 12 ∷ []))
+    -- the layer is not set again, or by a refused call, or a lower one is
+    ∷ (1, then in_force_first (End used ∷ on_page 12 ∷ []))
+    ∷ (1, then in_force_first (SetModalLayer (layer_of 7) ∷ End used ∷ on_page 12 ∷ []))
+    ∷ (1, then in_force_first (SetModalLayer (layer_of 1) ∷ End used ∷ on_page 12 ∷ []))
     -- requests, and an interest call with a layer of the box's own Order
-    then in_force_first (RequestFocus 12 ∷ [])
-    ∷ then in_force_first (RequestFocusNextFrame 12 ∷ [])
-    ∷ then in_force_first (Interest 12 (layer_of 2) ∷ [])
-    -- the layer not set again, set by a refused call, or a lower one set
-    ∷ then in_force_first (End used ∷ on_page 12 ∷ [])
-    ∷ then [] (set_box ∷ End used ∷ End used ∷ on_page 12 ∷ [])
-    ∷ then in_force_first (SetModalLayer (layer_of 7) ∷ End used ∷ on_page 12 ∷ [])
-    ∷ then in_force_first (SetModalLayer (layer_of 1) ∷ End used ∷ on_page 12 ∷ [])
-    -- an interest call before the layer is in force, also after an end that is refused
-    ∷ then [] (set_box ∷ on_page 12 ∷ [])
-    ∷ then [] (set_box ∷ End bad_used ∷ on_page 12 ∷ [])
-    -- a lower layer in force at the start, and one set
-    ∷ then (SetModalLayer (layer_of 0) ∷ End used ∷ []) (on_page 12 ∷ [])
-    ∷ then (SetModalLayer (layer_of 0) ∷ []) (End used ∷ on_page 12 ∷ [])
+    ∷ (2, then in_force_first (RequestFocus 12 ∷ []))
+    ∷ (2, then in_force_first (RequestFocusNextFrame 12 ∷ []))
+    ∷ (2, then in_force_first (Interest 12 (layer_of 2) ∷ []))
     ∷ []
 
--- in short, and at length
-abbrev pub keeps_shortly : Memory → List Call → Bool
-keeps_shortly m calls = in_force 2 m && (set_in_every_pass 2 (is_set 2 m) m calls && list_all (asks_from_below 2 12) calls)
+-- by the rule: one is set in every pass, and only interest calls with layers of a lower Order ask
+-- for 12, after the first end that is taken
+abbrev pub by_rule : Case → List Bool
+by_rule c =
+    set_in_every_pass 2 (is_set 2 (first_of c)) (first_of c) c.calls
+    ∷ asks_by_rule 2 12 false (first_of c) c.calls ∷ []
 
-abbrev pub keeps_at_length : Memory → List Call → Bool
-keeps_at_length m calls = keeps_under 2 12 (in_force 2 m) (is_set 2 m) m calls
+abbrev pub rule_cases : List (ℕ × Case)
+rule_cases =
+    -- none is set in the pass of the opening, or a lower one is
+    (0, then [] (End used ∷ on_page 12 ∷ []))
+    ∷ (0, then (SetModalLayer (layer_of 0) ∷ []) (End used ∷ on_page 12 ∷ []))
+    -- and in the next pass none, or by a refused call, or a lower one
+    ∷ (0, then (set_box ∷ []) (End used ∷ End used ∷ on_page 12 ∷ []))
+    ∷ (0, then (set_box ∷ []) (End used ∷ SetModalLayer (layer_of 7) ∷ End used ∷ on_page 12 ∷ []))
+    ∷ (0, then (set_box ∷ []) (End used ∷ SetModalLayer (layer_of 1) ∷ End used ∷ on_page 12 ∷ []))
+    -- an interest call before the layer is in force, also after an end that is refused
+    ∷ (1, then (set_box ∷ []) (on_page 12 ∷ []))
+    ∷ (1, then (set_box ∷ []) (End bad_used ∷ on_page 12 ∷ []))
+    -- and when it is, requests, and an interest call with a layer of the box's own Order
+    ∷ (1, then (set_box ∷ []) (End used ∷ RequestFocus 12 ∷ []))
+    ∷ (1, then (set_box ∷ []) (End used ∷ RequestFocusNextFrame 12 ∷ []))
+    ∷ (1, then (set_box ∷ []) (End used ∷ Interest 12 (layer_of 2) ∷ []))
+    ∷ []
 
-abbrev pub breaks : Case → Bool
-breaks c = kept_out (first_of c) 12 && (not (keeps_shortly (first_of c) c.calls) && (not (keeps_at_length (first_of c) c.calls) && not (kept_out (last_of c) 12)))
+-- at length, of all of these
+abbrev pub at_length : Case → Bool
+at_length c = keeps_under 2 12 (in_force 2 (first_of c)) (is_set 2 (first_of c)) (first_of c) c.calls
 
--- ---- after an ignore of 12: in each case one clause alone says that the calls may focus it, and they do
+-- and each lets 12 in, which was kept out
+abbrev pub lets_12_in : ℕ × Case → Bool
+lets_12_in c =
+    kept_out (first_of c.1) 12 && (not (at_length c.1) && not (kept_out (last_of c.1) 12))
+
+-- ---- after an ignore of 12: in each case one clause alone says that the calls may focus it, and
+-- they do
 abbrev pub ignored_cases : List Case
 ignored_cases =
     then (RequestFocusNextFrame 12 ∷ IgnoreFocus 12 ∷ []) (Begin [] ∷ [])

@@ -5,3 +5,4 @@ pub mod Edges
 pub mod Turns
 pub mod Rounds
 pub mod Instance
+pub mod Joined

@@ -14,7 +14,7 @@ use Rattle.search.specs.declared.Candidate.{Candidate}
 use Rattle.focus_rules.specs.declared.Nav.{Nav}
 use Rattle.focus_rules.specs.Rules.{changed_to, interested_of}
 use Rattle.focus_rules.specs.Page.{wanted_all, NoneOf}
-use Rattle.focus_pass.specs.Pass.{begin_refusal, begin_of, nav_begun, interest_of, interest_refusal}
+use Rattle.focus_pass.specs.Pass.{begin_of, nav_begun, interest_of, interest_refusal}
 use Rattle.focus_end.specs.End.{end_of, nav_ended}
 use Rattle.focus.specs.Focus.{held_of}
 use Rattle.focus.specs.Focus as Focus

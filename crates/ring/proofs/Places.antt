@@ -7,7 +7,7 @@ use native.Mathlib.Omega.{arith}
 use lib.Dec.{eqb}
 use lib.ListN.{length, get_or, take}
 use lib.Seq.{take-suc, take-length}
-use borrow.Author.Tests.{eqb-true, eqb-false}
+use borrow.Author.Tests.{eqb-true, eqb-false, eq-eqb, ne_eqb}
 use Rattle.search.specs.declared.Candidate.{Candidate}
 use Rattle.focus_rules.specs.Page.{last_of, NoneOf}
 use Rattle.focus_cache.specs.Cache.{has_id}
@@ -20,6 +20,10 @@ use Rattle.ring.specs.Ring.{Distinct, all_used}
 pub both : (a b : Bool) → (a && b) ≡ true → (a ≡ true) × (b ≡ true)
 both true b h = (refl, h)
 both false b h = absurd (false≢true h)
+
+neither : (a b : Bool) → (a || b) ≡ false → (a ≡ false) × (b ≡ false)
+neither true b h = absurd (false≢true (sym h))
+neither false b h = (refl, h)
 
 -- by the two ways of a test
 pub by_test : (P : ℕ → Type 0) (b : Bool) (x y : ℕ) → (b ≡ true → P x) → (b ≡ false → P y) → P (cond b x y)
@@ -56,6 +60,29 @@ unfolding all_used
 used_at used [] p h l = absurd (omega arith)
 used_at used (x ∷ xs) zero h l = (both (has_id used x) (all_used used xs) h).0
 used_at used (x ∷ xs) (suc p) h l = used_at used xs p (both (has_id used x) (all_used used xs) h).1 (omega arith)
+
+-- ---- being one of them, as a test
+pub elem_at : (xs : List ℕ) (p : ℕ) → p < length xs → elem xs (get_or xs p 0) ≡ true
+unfolding elem
+elem_at [] p l = absurd (omega arith)
+elem_at (x ∷ xs) zero l = rw (eq-eqb x x refl) refl
+elem_at (x ∷ xs) (suc p) l = or_true (eqb x (get_or xs p 0)) (elem xs (get_or xs p 0)) (elem_at xs p (omega arith))
+  where
+    or_true : (a b : Bool) → b ≡ true → (a || b) ≡ true
+    or_true true b h = refl
+    or_true false b h = h
+
+pub none_of : (xs : List ℕ) (id : ℕ) → elem xs id ≡ false → NoneOf xs id
+unfolding elem NoneOf
+none_of [] id h = tt
+none_of (x ∷ xs) id h =
+    let (e, es) = neither (eqb x id) (elem xs id) h in
+    (eqb-false x id e, none_of xs id es)
+
+pub not_elem : (xs : List ℕ) (id : ℕ) → NoneOf xs id → elem xs id ≡ false
+unfolding elem NoneOf
+not_elem [] id h = refl
+not_elem (x ∷ xs) id (e, es) = rw (ne_eqb x id e) (not_elem xs id es)
 
 -- ---- the last
 last_more : (d : ℕ) (xs : List ℕ) (x : ℕ) → last_of d (xs ++ (x ∷ [])) ≡ x

@@ -19,10 +19,10 @@ use Rattle.memory_rules.specs.declared.Memory.{Memory}
 use Rattle.memory_rules.specs.State.{nav_of}
 use Rattle.ring.specs.Lists.{Call, run, made}
 use Rattle.ring.specs.Count.{is_tab, is_shift_tab, last, turned_by, counted, place_of, count_of}
-use Rattle.ring.specs.Ring.{Step, Pass, steps_of, all_used, Registers, AllRegister, is_quiet, is_press, starts_quiet, are_presses, Distinct, Start, Turns}
+use Rattle.ring.specs.Ring.{Step, Pass, steps_of, all_used, Registers, AllRegister, is_quiet, is_press, starts_quiet, are_presses, Distinct, Start, Rests, Rounds, Turns}
 use Rattle.ring.proofs.Steps.{Reaches, reaches}
 use Rattle.ring.proofs.Passes.{Passed, passed}
-use Rattle.ring.proofs.Places.{both, by_test, not_there, found, last_field, forward_inside, back_inside}
+use Rattle.ring.proofs.Places.{both, by_test, not_there, none_of, not_elem, elem_at, found, last_field, forward_inside, back_inside}
 use Rattle.ring.proofs.Edges.{end_last, page_last}
 use Rattle.ring.proofs.Turns.{field, Resting, Standing, rests, pass_of, quiet, tabbed, shift_tabbed}
 
@@ -83,39 +83,69 @@ module _ (fields : List ℕ) (distinct : Distinct fields) (some : NoneOf fields 
       (turn (nav_of m) p x.at_begin x.at_end pass.used a.1 pass.events (starts_quiet passes) key r))
       x.more
 
--- ---- the start
-record Begins (fields : List ℕ) (m : Memory) : Type 0 where
-  some : NoneOf fields 0
-  last_one : 0 < length fields → (nav_of m).last_interested ≡ field fields (last (length fields))
-
-begins : (fields : List ℕ) (m : Memory) → Start fields m → Begins fields m
+-- ---- a start is all that is needed
+pub start_rests : (fields : List ℕ) (m : Memory) → Start fields m → Rests fields m
 unfolding each Reaches
-begins fields m s = go (passed 0 (run s.before s.calls) (counted 0 0 (made s.before s.calls)) s.before 0 s.pass [] (rw s.whole at (reaches 0 s.before 0 s.calls)))
+start_rests fields m s = go (passed 0 (run s.before s.calls) (counted 0 0 (made s.before s.calls)) s.before 0 s.pass [] (rw s.whole at (reaches 0 s.before 0 s.calls)))
   where
-    go : Passed 0 (run s.before s.calls) (counted 0 0 (made s.before s.calls)) s.before 0 s.pass [] → Begins fields m
-    go x = record {
-      some = subst (λ (ids : List ℕ). NoneOf ids 0) s.registers.0 x.some;
-      last_one = λ l. ap (λ (k : Memory). (nav_of k).last_interested) (sym (x.more.0 ∙ s.left)) ∙ ap (λ (k : Nav). k.last_interested) (page_left s.registers x) ∙ left_last fields l _ x.at_end s.pass.used;
-    }
+    go : Passed 0 (run s.before s.calls) (counted 0 0 (made s.before s.calls)) s.before 0 s.pass [] → Rests fields m
+    go x =
+        let (l, f) = found fields (nav_of m).focused s.idle.focused in
+        record {
+          some = not_elem fields 0 (subst (λ (ids : List ℕ). NoneOf ids 0) s.registers.0 x.some);
+          idle = s.idle;
+          last_interested =
+              ap (λ (k : Memory). (nav_of k).last_interested) (sym (x.more.0 ∙ s.left))
+              ∙ ap (λ (k : Nav). k.last_interested) (page_left s.registers x)
+              ∙ left_last fields (omega arith) _ x.at_end s.pass.used
+              ∙ sym (last_field 0 fields (omega arith));
+        }
+
+module _ (fields : List ℕ) (m : Memory) (calls : List Call) (passes : List Pass) (distinct : Distinct fields) (rests_there : Rests fields m) (rounds : Rounds fields m calls passes) where
+  abbrev after : Nav
+  after = nav_of (run m calls)
+
+  abbrev place : ℕ
+  place = place_of fields (nav_of m).focused
+
+  abbrev end : ℕ
+  end = counted (length fields) place (made m calls)
+
+  some : NoneOf fields 0
+  some = none_of fields 0 rests_there.some
+
+  ready : Ready fields place (nav_of m) (starts_quiet passes)
+  ready =
+      let i = rests_there.idle in
+      let (l, f) = found fields (nav_of m).focused i.focused in
+      let rest : Resting fields place (nav_of m) = (sym f, i.tab_off, i.no_give, i.no_next) in
+      record { inside = l; stands = rests rest; at_rest_lem = λ q. rest; last_one = rests_there.last_interested ∙ last_field 0 fields (omega arith) }
+
+  at_end : Ready fields end after false
+  at_end = walk fields distinct some passes m place (run m calls) end rounds.register rounds.presses ready (rw rounds.whole at (reaches (length fields) m place calls))
+
+  -- it rests at the place that is counted
+  at_place : Resting fields end after
+  at_place = at_end.at_rest_lem refl
+
+  counts : id_or_nothing after.focused ≡ Some (get_or fields end 0)
+  counts = ap (λ (id : ℕ). id_or_nothing id) at_place.0 ∙ ap (λ (b : Bool). cond {A = Option ℕ} b None (Some (get_or fields end 0))) (ne_eqb (get_or fields end 0) 0 (not_there fields 0 end some at_end.inside))
+
+  rests_again : Rests fields (run m calls)
+  rests_again = record {
+    some = rests_there.some;
+    idle = record {
+      focused = rw at_place.0 (elem_at fields end at_end.inside);
+      tab_off = at_place.1;
+      no_next = at_place.3;
+      no_give = at_place.2;
+    };
+    last_interested = at_end.last_one ∙ sym (last_field 0 fields (let l = at_end.inside in omega arith));
+  }
+
+  pub ring_from : (id_or_nothing after.focused ≡ Some (count_of fields (nav_of m).focused (made m calls))) × Rests fields (run m calls)
+  unfolding count_of
+  ring_from = (counts, rests_again)
 
 pub ring : (fields : List ℕ) (m : Memory) (calls : List Call) (passes : List Pass) → Turns fields m calls passes → id_or_nothing (nav_of (run m calls)).focused ≡ Some (count_of fields (nav_of m).focused (made m calls))
-unfolding count_of
-ring fields m calls passes t = answer (walk fields t.distinct begun.some passes m place (run m calls) end t.register t.presses ready (rw t.whole at (reaches (length fields) m place calls)))
-  where
-    place : ℕ
-    place = place_of fields (nav_of m).focused
-
-    end : ℕ
-    end = counted (length fields) place (made m calls)
-
-    begun : Begins fields m
-    begun = begins fields m t.start
-
-    ready : Ready fields place (nav_of m) (starts_quiet passes)
-    ready =
-        let (l, f) = found fields (nav_of m).focused t.start.focused in
-        let rest : Resting fields place (nav_of m) = (sym f, t.start.tab_off, t.start.no_give, t.start.no_next) in
-        record { inside = l; stands = rests rest; at_rest_lem = λ q. rest; last_one = begun.last_one (omega arith) }
-
-    answer : Ready fields end (nav_of (run m calls)) false → id_or_nothing (nav_of (run m calls)).focused ≡ Some (get_or fields end 0)
-    answer r = ap (λ (id : ℕ). id_or_nothing id) (r.at_rest_lem refl).0 ∙ ap (λ (b : Bool). cond {A = Option ℕ} b None (Some (get_or fields end 0))) (ne_eqb (get_or fields end 0) 0 (not_there fields 0 end begun.some r.inside))
+ring fields m calls passes t = (ring_from fields m calls passes t.distinct (start_rests fields m t.start) t.rounds).0

@@ -1,5 +1,6 @@
--- A page of two fields on which the premises of the ring hold, from a new memory, with refused calls in between: the calls and the passes. Definitions only.
-use Rattle.std.specs.Prelude.{ℕ, true, false, List, [], ◌∷◌, ◌++◌, map}
+-- A page of two fields on which the premises of the ring hold, from a new memory, with refused
+-- calls in between: the calls and the passes. Definitions only.
+use Rattle.std.specs.Prelude.{ℕ, None, true, false, List, [], ◌∷◌, ◌++◌, map}
 use Rattle.std.specs.Float.{binary32}
 use Rattle.std.specs.Float.Ieee.{of_bits}
 use Rattle.emath.specs.declared.Pos2.{Pos2}
@@ -10,6 +11,7 @@ use Rattle.layers.specs.declared.LayerId.{LayerId}
 use Rattle.search.specs.declared.Candidate.{Candidate}
 use Rattle.memory_rules.specs.declared.Memory.{Memory}
 use Rattle.memory_rules.specs.State.{new_memory}
+use Rattle.memory_rules.specs.Calls as Memory
 use Rattle.ring.specs.Lists.{Call, Begin, Interest, End, run}
 use Rattle.ring.specs.Ring.{Pass}
 
@@ -59,3 +61,19 @@ calls =
 
 abbrev pub passes : List Pass
 passes = map passing ((tab_down ∷ []) ∷ [] ∷ (tab_down ∷ []) ∷ [] ∷ (shift_tab_down ∷ []) ∷ [] ∷ [])
+
+-- ---- a start pass with other calls between its own, which leave a modal layer in force
+abbrev pub low : LayerId
+low = record { order = 0; id = 3 }
+
+unfoldable pub after_all : Memory → List Memory.Call → Memory
+after_all m [] = m
+after_all m (call ∷ calls) = after_all (Memory.done_by call m).memory calls
+
+abbrev pub busy_first : List Memory.Call
+busy_first =
+    Memory.Begin (tab_down ∷ []) ∷ Memory.OpenPopupAt 5 None ∷ Memory.Interest 11 layer
+    ∷ Memory.SetModalLayer low ∷ Memory.Interest 12 layer ∷ Memory.End used ∷ []
+
+unfoldable pub busy_start : Memory
+busy_start = after_all new_memory busy_first

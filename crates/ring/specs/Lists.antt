@@ -1,4 +1,5 @@
--- A list of begin, interest and end calls of Memory: what it leaves, and whether each was refused. Definitions only.
+-- A list of begin, interest and end calls of Memory: what it leaves, and whether each was refused.
+-- Definitions only.
 use Rattle.std.specs.Prelude.{ℕ, Bool, not, List, [], ◌∷◌, eqb}
 use Rattle.input.specs.declared.Event.{Event}
 use Rattle.layers.specs.declared.LayerId.{LayerId}
