@@ -1,4 +1,5 @@
--- What the calls that change a layer's row do in egui's terms, and that they keep the rows sound. Assumes nothing.
+-- What the calls that change a layer's row do in egui's terms, and that the rows still fit.
+-- Assumes nothing.
 use mathlib.Core.Path.{◌≡◌, refl, sym, ap}
 use mathlib.Core.Bool.{Bool, true, false, not}
 use mathlib.Core.List.{List, [], ◌∷◌}
@@ -16,14 +17,14 @@ use Rattle.layer_rows.specs.declared.Row.{Row}
 use Rattle.layer_rows.specs.Rows.{marked}
 use Rattle.layer_queries.specs.Queries.{shown_last, is_child_row}
 use Rattle.layer_table.specs.Layers.{raised_row, to_top}
-use Rattle.std.specs.Prelude.{None}
+use Rattle.std.specs.Prelude.{◌≢◌, None}
 use Rattle.area_table.specs.Table.{Entry, get_in, insert_in}
 use Rattle.area_table.specs.Table as Table
 use Rattle.area_stack.specs.Stack.{shown_row}
 use Rattle.area_maps.specs.Egui.{pushed, place_in}
 use Rattle.area_maps.specs.Egui as Egui
 use Rattle.area_maps.specs.Meaning.{layers_in, child_in, meaning}
-use Rattle.area_maps.proofs.Sound.{has_id, Sound}
+use Rattle.area_maps.specs.Fits.{has_id, StackFits}
 use Rattle.area_maps.proofs.Marked.{field_same, flag_set, layers_marked, pushed_take, pushed_length}
 use Rattle.area_maps.proofs.Pushed.{pushed_distinct, pushed_orders, pushed_still, pushed_self, pairs_still}
 
@@ -58,9 +59,11 @@ module _ (f : Row → Row) (keeps : (r : Row) → (f r).layer ≡ r.layer) (pare
       go true e = held_some (has_id id) (layers_in (marked f rows l)) l here e
       go false e = some_still (has_id id) (layers_in rows) (layers_in (marked f rows l)) still (old id (k id h e))
 
-  pub sound_marked : l.order ≤ last_order → (entries entries' : List Entry) → Sound placed rows entries → Table.Distinct entries'
-      → ((id : ℕ) → (get_in entries' id ≡ None → ⊥) → eqb l.id id ≡ false → (get_in entries id ≡ None → ⊥)) → Sound placed (marked f rows l) entries'
-  sound_marked o entries entries' s d k = record {
+  pub marked_fits : l.order ≤ last_order → (entries entries' : List Entry)
+      → StackFits placed rows entries → Table.Distinct entries'
+      → ((id : ℕ) → get_in entries' id ≢ None → eqb l.id id ≡ false → get_in entries id ≢ None)
+      → StackFits placed (marked f rows l) entries'
+  marked_fits o entries entries' s d k = record {
     placed_held = omega (arith, s.placed_held, mark_longer f keeps l rows);
     distinct = rw (layers_marked f keeps l rows) (pushed_distinct l (layers_in rows) s.distinct);
     orders = rw (layers_marked f keeps l rows) (pushed_orders l (layers_in rows) s.orders o);

@@ -1,4 +1,4 @@
--- What the end of a pass does in egui's terms, and that it keeps the rows sound. Assumes nothing.
+-- What the end of a pass does in egui's terms, and that the rows still fit. Assumes nothing.
 use mathlib.Core.Path.{◌≡◌, sym, ap, ◌∙◌}
 use mathlib.Core.Bool.{true, true≢false, not}
 use mathlib.Core.List.{List, [], ◌∷◌}
@@ -25,7 +25,7 @@ use Rattle.area_table.specs.Table.{Entry}
 use Rattle.area_maps.specs.Egui.{place_in}
 use Rattle.area_maps.specs.Egui as Egui
 use Rattle.area_maps.specs.Meaning.{layers_in, child_in, meaning}
-use Rattle.area_maps.proofs.Sound.{has_id, Sound}
+use Rattle.area_maps.specs.Fits.{has_id, StackFits}
 use Rattle.area_maps.proofs.Pushed.{or-true, or_right, no_pairs}
 use Rattle.area_maps.proofs.Changes.{length_layers, some_still}
 
@@ -44,7 +44,8 @@ holds_times : (order : List LayerId) (l : LayerId) → holds order l ≡ ltb 0 (
 unfolding holds times
 holds_times order l = some_count (λ x. is_layer x l) order
 
-module _ (placed : ℕ) (rows : List Row) (entries : List Entry) (s : Sound placed rows entries) where
+module _ (placed : ℕ) (rows : List Row) (entries : List Entry)
+    (s : StackFits placed rows entries) where
   same_times : (l : LayerId) → times (layers_in (end_rows rows)) l ≡ times (layers_in rows) l
   same_times l = rw (ended_layers rows s.distinct s.orders s.pairs) (stack_layers (raised_in rows) (child_in rows) (layers_in rows) s.orders s.pairs s.distinct l)
 
@@ -54,8 +55,8 @@ module _ (placed : ℕ) (rows : List Row) (entries : List Entry) (s : Sound plac
   row_after_lem : (l : LayerId) → row_of (end_rows rows) l ≡ record { layer = l; shown = 0; last = (row_of rows l).shown; raised = 0; parent = 0; area = (row_of rows l).area; key = 0 }
   row_after_lem l = ended_row rows l s.distinct
 
-  pub sound_ended : Sound (length (end_rows rows)) (end_rows rows) entries
-  sound_ended = record {
+  pub ended_fits : StackFits (length (end_rows rows)) (end_rows rows) entries
+  ended_fits = record {
     placed_held = omega arith;
     distinct = once_distinct (layers_in (end_rows rows)) (λ l. rw (same_times l) (distinct_once (layers_in rows) s.distinct l));
     orders = held_orders (layers_in (end_rows rows)) (λ l h. orders_held (layers_in rows) s.orders l (sym (same_held l) ∙ h));

@@ -1,5 +1,4 @@
 -- What the record's tables mean, and that every call keeps it.
-pub mod Sound
 pub mod Marked
 pub mod Pushed
 pub mod Changes
@@ -11,4 +10,5 @@ pub mod Steps
 pub mod Pairing
 pub mod States
 pub mod Answers
+pub mod Blanks
 pub mod Holds

@@ -29,7 +29,7 @@ use Rattle.areas.specs.Areas.{window_in}
 use Rattle.area_maps.specs.Egui.{place_in}
 use Rattle.area_maps.specs.Egui as Egui
 use Rattle.area_maps.specs.Meaning.{layers_in, child_in, meaning}
-use Rattle.area_maps.proofs.Sound.{Sound}
+use Rattle.area_maps.specs.Fits.{StackFits}
 use Rattle.area_maps.proofs.Lists.{keep_map, some_map, each_map, take_map, keep_every, some_both, each_keep, last_topmost, topmost_only, rank_place}
 
 -- ---- the layer that a row says is its layer's parent
@@ -73,7 +73,7 @@ module _ (placed : ℕ) (rows : List Row) (entries : List Entry) where
       place : (l : LayerId) → rank_in (take placed rows) l ≡ place_in (take placed (layers_in rows)) l
       place l = rank_place (take placed rows) l ∙ ap (λ (order : List LayerId). place_in order l) (take_map (λ (r : Row). r.layer) placed rows)
 
-  module _ (s : Sound placed rows entries) where
+  module _ (s : StackFits placed rows entries) where
     -- ---- a layer's parent
     pub query_sublayer : (l : LayerId) → is_sublayer_row (row_of rows l) ≡ Egui.is_sublayer m l
     query_sublayer l = go (is_sublayer_row (row_of rows l)) refl

@@ -1,5 +1,5 @@
--- `set_state` on the record by value does in egui's terms what egui's text does, and keeps the record sound. There is room for every layer's state: ids that have a state are
--- ids of layers. Assumes nothing.
+-- What `set_state` leaves of the record fits its tables, and means what egui's text leaves. There
+-- is room for every layer's state: ids that have a state are ids of layers. Assumes nothing.
 use mathlib.Core.Path.{◌≡◌, refl, sym, ap, ◌∙◌}
 use mathlib.Core.Bool.{Bool, true, false, cond, ◌||◌}
 use mathlib.Core.List.{List, [], ◌∷◌, map}
@@ -28,16 +28,17 @@ use Rattle.area_table.specs.Table.{Entry, room_of, held_in, spot_of, put_in, ent
 use Rattle.area_table.specs.Table as Table
 use Rattle.area_table.proofs.Entries.{entries_put, entries_count, put_room, insert_distinct, insert_get, distinct_fits}
 use Rattle.areas.specs.declared.Areas.{Areas}
-use Rattle.area_stack.specs.Stack.{slot_of, shown_row, room_refusal, set_state_refusal, set_state_of, with_state}
+use Rattle.area_stack.specs.Stack.{Tables, slot_of, shown_row, room_refusal}
+use Rattle.area_stack.specs.Stack.{set_state_refusal, set_state_of, with_state}
 use Rattle.areas.specs.Areas.{tables_of, stack_of, areas_in, areas_of, state_set}
 use Rattle.area_maps.specs.Egui.{pushed}
 use Rattle.area_maps.specs.Egui as Egui
 use Rattle.area_maps.specs.Calls.{SetState, egui_step}
 use Rattle.area_maps.specs.Meaning.{layers_in, meaning_of, entries_in}
-use Rattle.area_maps.proofs.Sound.{has_id, Sound, SoundAreas}
+use Rattle.area_maps.specs.Fits.{HasRoom, has_id, StackFits, Fits}
 use Rattle.area_maps.proofs.Marked.{layers_marked}
-use Rattle.area_maps.proofs.Changes.{length_layers, marked_known, sound_marked, state_means}
-use Rattle.area_maps.proofs.Steps.{layer_taken}
+use Rattle.area_maps.proofs.Changes.{length_layers, marked_known, marked_fits, state_means}
+use Rattle.area_maps.proofs.Steps.{layer_taken, Leaves}
 
 -- ids of layers
 elem_some : (order : List LayerId) (id : ℕ) → elem (map (λ (l : LayerId). l.id) order) id ≡ some (has_id id) order
@@ -64,7 +65,7 @@ reach n k = go (dec_lt k n)
     go (yes h) = rw (lt-ltb k n h) (omega arith)
     go (no h) = rw (le-ltb k n (omega arith)) (omega arith)
 
-module _ (limit : ℕ) (a : Areas) (s : SoundAreas limit a) (l : LayerId) (state : AreaState) where
+module _ (limit : ℕ) (a : Areas) (s : Fits limit a) (l : LayerId) (state : AreaState) where
   abbrev slot : ℕ
   slot = slot_of (tables_of a) l
 
@@ -75,10 +76,12 @@ module _ (limit : ℕ) (a : Areas) (s : SoundAreas limit a) (l : LayerId) (state
   entries = insert_in (entries_in a) l.id state
 
   known : (id : ℕ) → (get_in entries id ≡ None → ⊥) → some (has_id id) (layers_in stack) ≡ true
-  known = marked_known (shown_row (slot + 1)) (λ r. refl) (λ p r. refl) l a.placed (stack_of a) (entries_in a) entries s.sound.entries_known (other_id (entries_in a) l.id state)
+  known =
+      marked_known (shown_row (slot + 1)) (λ r. refl) (λ p r. refl) l a.placed (stack_of a)
+      (entries_in a) entries s.stack.entries_known (other_id (entries_in a) l.id state)
 
   distinct : Table.Distinct entries
-  distinct = insert_distinct (entries_in a) l.id state s.sound.entries_distinct
+  distinct = insert_distinct (entries_in a) l.id state s.stack.entries_distinct
 
   many : length entries ≤ length stack
   many =
@@ -88,14 +91,17 @@ module _ (limit : ℕ) (a : Areas) (s : SoundAreas limit a) (l : LayerId) (state
   -- how many states there are then
   count : length entries ≡ max (held_in a.states (areas_in a)) (slot + 1)
   unfolding slot_of
-  count = entries_count (areas_in a) a.states (row_of (stack_of a) l).area l.id state s.sound.entries_distinct ∙ reach (held_in a.states (areas_in a)) slot
+  count =
+      entries_count (areas_in a) a.states (row_of (stack_of a) l).area l.id state
+      s.stack.entries_distinct
+      ∙ reach (held_in a.states (areas_in a)) slot
 
   -- ---- there is room for the state where there is room for the layer
   long : length stack ≡ max (length (stack_of a)) (spot_in (stack_of a) l + 1)
   long = mark_length (shown_row (slot + 1)) l (stack_of a)
 
   few : length (stack_of a) ≤ limit
-  few = omega (arith, held_length a.count a.rows, s.row_room)
+  few = omega (arith, held_length a.count a.rows, s.room.rows)
 
   slot_fits : spot_in (stack_of a) l < limit → slot < limit
   slot_fits h = omega (arith, count, many, long, few)
@@ -105,15 +111,31 @@ module _ (limit : ℕ) (a : Areas) (s : SoundAreas limit a) (l : LayerId) (state
 
   same_room : lowest (room_refusal (spot_in (stack_of a) l) (room_in a.rows)) (room_refusal slot (room_of (areas_in a))) ≡ Egui.full_refusal limit (pushed (layers_in (stack_of a)) l)
   unfolding lowest
-  same_room = rw (s.row_room, s.area_room, order_length) (go (dec_lt (spot_in (stack_of a) l) limit))
+  same_room = rw (s.room.rows, order_length) (go (dec_lt spot limit))
     where
+      spot : ℕ
+      spot = spot_in (stack_of a) l
+
+      room : ℕ
+      room = room_of (areas_in a)
+
+      long : ℕ
+      long = max (length (stack_of a)) (spot + 1)
+
       either : (t : Bool) → lowest 6 (cond t 0 6) ≡ 6
       either true = refl
       either false = refl
 
-      go : Dec (spot_in (stack_of a) l < limit) → lowest (cond (ltb (spot_in (stack_of a) l) limit) 0 6) (cond (ltb slot limit) 0 6) ≡ cond (ltb limit (max (length (stack_of a)) (spot_in (stack_of a) l + 1))) 6 0
-      go (yes h) = rw (lt-ltb (spot_in (stack_of a) l) limit h, lt-ltb slot limit (slot_fits h), le-ltb limit (max (length (stack_of a)) (spot_in (stack_of a) l + 1)) (omega (arith, few)))
-      go (no h) = rw (le-ltb (spot_in (stack_of a) l) limit (omega arith), lt-ltb limit (max (length (stack_of a)) (spot_in (stack_of a) l + 1)) (omega arith)) (either (ltb slot limit))
+      lower : ℕ
+      lower = lowest (cond (ltb spot limit) 0 6) (cond (ltb slot room) 0 6)
+
+      go : Dec (spot < limit) → lower ≡ cond (ltb limit long) 6 0
+      go (yes h) =
+          let left : slot < room = omega (arith, slot_fits h, s.room.states) in
+          rw (lt-ltb spot limit h, lt-ltb slot room left, le-ltb limit long (omega (arith, few)))
+      go (no h) =
+          rw (le-ltb spot limit (omega arith), lt-ltb limit long (omega arith))
+          (either (ltb slot room))
 
   pub state_refusal_lem : set_state_refusal (tables_of a) l state ≡ Egui.set_state_refusal (meaning_of a) limit l state
   unfolding set_state_refusal Egui.set_state_refusal
@@ -131,38 +153,61 @@ module _ (limit : ℕ) (a : Areas) (s : SoundAreas limit a) (l : LayerId) (state
         ((layer_taken l p1).1, left (ltb (spot_in (stack_of a) l) (room_in a.rows)) refl q1)
       where
         left : (t : Bool) → ltb (spot_in (stack_of a) l) (room_in a.rows) ≡ t → ◌≡◌ {A = ℕ} (cond t 0 6) 0 → spot_in (stack_of a) l < limit
-        left true p h = omega (arith, ltb-true (spot_in (stack_of a) l) (room_in a.rows) p, s.row_room)
+        left true p h =
+            omega (arith, ltb-true (spot_in (stack_of a) l) (room_in a.rows) p, s.room.rows)
         left false p h = absurd (omega arith)
 
     abbrev next : Areas
     next = areas_of a.placed (with_state (tables_of a) l state)
 
-    fits : 8 * length stack ≤ length a.rows
-    fits = let (o, k) = taken in omega (arith, k, long, few, s.row_room)
+    short : 8 * length stack ≤ length a.rows
+    short = let (o, k) = taken in omega (arith, k, long, few, s.room.rows)
 
     stack_next : stack_of next ≡ stack
-    stack_next = held_on a.rows stack fits
+    stack_next = held_on a.rows stack short
 
     entries_next : entries_in next ≡ entries
     unfolding slot_of
     entries_next =
         let (o, k) = taken in
-        ap (λ (n : ℕ). entries_of (put_in (areas_in a) slot l.id state) n) (sym count) ∙ entries_put (areas_in a) a.states (row_of (stack_of a) l).area l.id state s.sound.entries_distinct (omega (arith, slot_fits k, s.area_room))
+        let area = (row_of (stack_of a) l).area in
+        let left : slot < room_of (areas_in a) = omega (arith, slot_fits k, s.room.states) in
+        ap (λ (n : ℕ). entries_of (put_in (areas_in a) slot l.id state) n) (sym count)
+        ∙ entries_put (areas_in a) a.states area l.id state s.stack.entries_distinct left
 
-    sound_next : Sound a.placed stack entries
-    sound_next = sound_marked (shown_row (slot + 1)) (λ r. refl) (λ p r. refl) l a.placed (stack_of a) taken.0 (entries_in a) entries s.sound distinct (other_id (entries_in a) l.id state)
+    stack_fits : StackFits a.placed stack entries
+    stack_fits =
+        marked_fits (shown_row (slot + 1)) (λ r. refl) (λ p r. refl) l a.placed (stack_of a) taken.0
+        (entries_in a) entries s.stack distinct (other_id (entries_in a) l.id state)
 
-    state_sound : SoundAreas limit next
-    state_sound = record { row_room = ap (λ (n : ℕ). n / 8) (on_length a.rows stack fits) ∙ s.row_room; area_room = put_room (areas_in a) slot l.id state ∙ s.area_room; sound = rw (stack_next, entries_next) sound_next }
+    room : HasRoom limit next
+    room = record {
+      rows = ap (λ (n : ℕ). n / 8) (on_length a.rows stack short) ∙ s.room.rows;
+      states = omega (arith, put_room (areas_in a) slot l.id state, s.room.states);
+    }
 
-    state_next : meaning_of next ≡ Egui.set_state (meaning_of a) l state
-    state_next = rw (stack_next, entries_next) (state_means l a.placed (stack_of a) (entries_in a) s.sound.placed_held (slot + 1) state)
+    next_fits : Fits limit next
+    next_fits = record { room = room; stack = rw (stack_next, entries_next) stack_fits }
 
-  pub state_step : SoundAreas limit (state_set a l state).areas × (meaning_of (state_set a l state).areas ≡ egui_step limit (SetState l state) (meaning_of a))
+    state_leaves : Leaves limit next (Egui.set_state (meaning_of a) l state)
+    state_leaves =
+        let held = s.stack.placed_held in
+        let means = state_means l a.placed (stack_of a) (entries_in a) held (slot + 1) state in
+        (next_fits, rw (stack_next, entries_next) means)
+
+  pub state_step : Leaves limit (state_set a l state).areas
+      (egui_step limit (SetState l state) (meaning_of a))
   unfolding state_set set_state_of
-  state_step = rw (← state_refusal_lem) (go (set_state_refusal (tables_of a) l state) refl)
+  state_step = rw (← state_refusal_lem) (go (set_state_refusal (tables_of a) l state) state_leaves)
     where
-      go : (n : ℕ) → set_state_refusal (tables_of a) l state ≡ n
-          → SoundAreas limit (areas_of a.placed (kept n (tables_of a) (with_state (tables_of a) l state))) × (meaning_of (areas_of a.placed (kept n (tables_of a) (with_state (tables_of a) l state))) ≡ kept n (meaning_of a) (Egui.set_state (meaning_of a) l state))
-      go zero e = (state_sound e, state_next e)
-      go (suc n) e = (s, refl)
+      after : Tables
+      after = with_state (tables_of a) l state
+
+      next_egui : Egui.Areas
+      next_egui = Egui.set_state (meaning_of a) l state
+
+      go : (r : ℕ) → (r ≡ 0 → Leaves limit (areas_of a.placed after) next_egui)
+          → Leaves limit (areas_of a.placed (kept r (tables_of a) after))
+          (kept r (meaning_of a) next_egui)
+      go zero leaves = leaves refl
+      go (suc r) leaves = (s, refl)

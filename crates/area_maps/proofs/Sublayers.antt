@@ -1,4 +1,4 @@
--- What `set_sublayer` does in egui's terms, and that it keeps the rows sound. Assumes nothing.
+-- What `set_sublayer` does in egui's terms, and that the rows still fit. Assumes nothing.
 use mathlib.Core.Path.{◌≡◌, refl, sym, ap, ◌∙◌}
 use mathlib.Core.Bool.{Bool, true, false, true≢false, cond, not, ◌&&◌, ◌||◌, and-false}
 use mathlib.Core.List.{List, [], ◌∷◌}
@@ -23,10 +23,10 @@ use Rattle.area_table.specs.Table.{Entry}
 use Rattle.area_maps.specs.Egui.{pushed, place_in}
 use Rattle.area_maps.specs.Egui as Egui
 use Rattle.area_maps.specs.Meaning.{layers_in, child_in, meaning}
-use Rattle.area_maps.proofs.Sound.{Sound}
+use Rattle.area_maps.specs.Fits.{StackFits}
 use Rattle.area_maps.proofs.Marked.{row_marked, field_same, layers_marked}
 use Rattle.area_maps.proofs.Pushed.{and-true, or_false, pushed_still, pushed_self, one_pair}
-use Rattle.area_maps.proofs.Changes.{length_layers, mark_longer, sound_marked, places}
+use Rattle.area_maps.proofs.Changes.{length_layers, mark_longer, marked_fits, places}
 
 -- what holds of no row holds of nothing that is held
 none_held : (p : Row → Bool) (rows : List Row) (l : LayerId) → some p rows ≡ false → p (new_row l) ≡ false → p (row_of rows l) ≡ false
@@ -115,9 +115,12 @@ module _ (parent child : LayerId) (rows : List Row) where
           longer h = omega (arith, mark_longer same (λ r. refl) parent rows)
 
       -- the pair fits the others: see refusals 8 and 9
-      pub sound_sublayer : is_layer child parent ≡ false → some (is_child_row child) rows ≡ false → is_sublayer_row (row_of rows parent) ≡ false → parent.order ≤ last_order → Sound placed rows entries → Sound placed (with_sublayer rows parent child) entries
+      pub sublayer_fits : is_layer child parent ≡ false → some (is_child_row child) rows ≡ false
+          → is_sublayer_row (row_of rows parent) ≡ false → parent.order ≤ last_order
+          → StackFits placed rows entries
+          → StackFits placed (with_sublayer rows parent child) entries
       unfolding with_sublayer
-      sound_sublayer apart top root o s = record {
+      sublayer_fits apart top root o s = record {
         placed_held = omega (arith, two.placed_held, as_long);
         distinct = rw (← as_layers) two.distinct;
         orders = rw (← as_layers) two.orders;
@@ -135,12 +138,16 @@ module _ (parent child : LayerId) (rows : List Row) where
           keep2 : (r : Row) → (child_row parent.id r).layer ≡ r.layer
           keep2 r = refl
 
-          one : Sound placed first entries
-          one = sound_marked same keep1 (λ p r. refl) parent placed rows o entries entries s s.entries_distinct (λ id h e. h)
+          one : StackFits placed first entries
+          one =
+              marked_fits same keep1 (λ p r. refl) parent placed rows o
+              entries entries s s.entries_distinct (λ id h e. h)
 
           -- all but the pairs
-          two : Sound placed (marked same first child) entries
-          two = sound_marked same keep1 (λ p r. refl) child placed first (rw (← same_order) o) entries entries one s.entries_distinct (λ id h e. h)
+          two : StackFits placed (marked same first child) entries
+          two =
+              marked_fits same keep1 (λ p r. refl) child placed first (rw (← same_order) o)
+              entries entries one s.entries_distinct (λ id h e. h)
 
           as_layers : layers_in (marked same first child) ≡ layers_in both
           as_layers = layers_marked same keep1 child first ∙ sym (layers_marked (child_row parent.id) keep2 child first)

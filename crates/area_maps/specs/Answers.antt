@@ -1,4 +1,5 @@
--- What the record answers, and what egui's Areas does: that they are the same, query by query and for every argument. Definitions only.
+-- That a record agrees with egui's Areas: it means and answers the same, query by query and for
+-- every argument, and refuses the next call as Egui.antt says. Definitions only.
 use Rattle.std.specs.Prelude.{◌≡◌, ℕ, length}
 use Rattle.emath.specs.declared.Pos2.{Pos2}
 use Rattle.layers.specs.declared.LayerId.{LayerId}
@@ -8,8 +9,12 @@ use Rattle.layer_queries.specs.declared.Listing.TheVariants.{All, Visible, Child
 use Rattle.area_table.specs.Table.{held_in, held_of}
 use Rattle.area_stack.specs.Stack.{layer_id_at, is_interactable}
 use Rattle.areas.specs.declared.Areas.{Areas}
+use Rattle.area.specs.declared.AreaState.{AreaState}
 use Rattle.areas.specs.Areas.{stack_of, areas_in, tables_of, layers_of, windows_of}
+use Rattle.areas.specs.Areas.{state_set, to_top_of, sublayer_set}
 use Rattle.area_maps.specs.Egui as Egui
+use Rattle.area_maps.specs.Meaning.{meaning_of}
+use Rattle.area_maps.specs.Fits.{Fits}
 
 -- ---- every query about layers, from egui's sets and list
 abbrev pub LayerAnswers : Areas → Egui.Areas → Type 0
@@ -32,3 +37,20 @@ AreaAnswers a e =
     × ((layer : LayerId) → is_interactable (held_of (areas_in a) a.states 0 layer.id) ≡ Egui.is_interactable e layer)
     × ((pos : Pos2) → layer_id_at (tables_of a) pos ≡ Egui.layer_id_at e pos)
     × (windows_of a ≡ Egui.visible_windows e)
+
+-- ---- the refusal of the next call
+pub record Refusals (limit : ℕ) (a : Areas) (e : Egui.Areas) : Type 0 where
+  pub set_state : (layer : LayerId) (state : AreaState)
+      → (state_set a layer state).refusal ≡ Egui.set_state_refusal e limit layer state
+  pub move_to_top : (layer : LayerId)
+      → (to_top_of a layer).refusal ≡ Egui.move_to_top_refusal e limit layer
+  pub set_sublayer : (parent child : LayerId)
+      → (sublayer_set a parent child).refusal ≡ Egui.set_sublayer_refusal e limit parent child
+
+-- ---- all of it, of a record that fits its tables
+pub record Agrees (limit : ℕ) (a : Areas) (e : Egui.Areas) : Type 0 where
+  pub fits : Fits limit a
+  pub means : meaning_of a ≡ e
+  pub refusals : Refusals limit a e
+  pub layer_answers : LayerAnswers a e
+  pub area_answers : AreaAnswers a e

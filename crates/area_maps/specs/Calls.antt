@@ -1,4 +1,5 @@
--- The calls that change Areas, in a list, and what they leave: of the record by value, and of egui's maps and sets. Definitions only.
+-- The calls that change Areas, in a list, and what they leave: of the record, and of egui's maps
+-- and sets. Definitions only.
 use Rattle.std.specs.Prelude.{ℕ, List, [], ◌∷◌}
 use Rattle.refusal.specs.Refusal.{kept}
 use Rattle.area.specs.declared.AreaState.{AreaState}
@@ -18,17 +19,18 @@ pub data Call : Type 0 where
 abbrev pub Calls : Type 0
 Calls = List Call
 
--- ---- the record
-abbrev pub record_step : Call → Areas → Areas
-record_step (SetState layer state) a = (state_set a layer state).areas
-record_step (MoveToTop layer) a = (to_top_of a layer).areas
-record_step (SetSublayer parent child) a = (sublayer_set a parent child).areas
-record_step EndPass a = pass_ended a
-record_step Reset a = new_areas
+-- ---- the record; `reset` is what a reset makes of it: the record by value is then a new one,
+-- and in place the tables stay and the counts are 0
+abbrev pub record_step : (Areas → Areas) → Call → Areas → Areas
+record_step reset (SetState layer state) a = (state_set a layer state).areas
+record_step reset (MoveToTop layer) a = (to_top_of a layer).areas
+record_step reset (SetSublayer parent child) a = (sublayer_set a parent child).areas
+record_step reset EndPass a = pass_ended a
+record_step reset Reset a = reset a
 
-unfoldable pub record_after : Calls → Areas
-record_after [] = new_areas
-record_after (call ∷ before) = record_step call (record_after before)
+unfoldable pub record_from : (Areas → Areas) → Areas → Calls → Areas
+record_from reset start [] = start
+record_from reset start (call ∷ before) = record_step reset call (record_from reset start before)
 
 -- ---- egui, which is not asked a call that is refused; `reset_areas` makes it anew
 abbrev pub egui_step : ℕ → Call → Egui.Areas → Egui.Areas
@@ -38,6 +40,13 @@ egui_step limit (SetSublayer parent child) m = kept (Egui.set_sublayer_refusal m
 egui_step limit EndPass m = Egui.end_pass m
 egui_step limit Reset m = Egui.empty
 
-unfoldable pub egui_after : ℕ → Calls → Egui.Areas
-egui_after limit [] = Egui.empty
-egui_after limit (call ∷ before) = egui_step limit call (egui_after limit before)
+unfoldable pub egui_from : ℕ → Egui.Areas → Calls → Egui.Areas
+egui_from limit start [] = start
+egui_from limit start (call ∷ before) = egui_step limit call (egui_from limit start before)
+
+-- ---- both from new ones, the record by value
+abbrev pub record_after : Calls → Areas
+record_after calls = record_from (λ a. new_areas) new_areas calls
+
+abbrev pub egui_after : ℕ → Calls → Egui.Areas
+egui_after limit calls = egui_from limit Egui.empty calls

@@ -1,4 +1,5 @@
 pub mod Egui
 pub mod Calls
 pub mod Meaning
+pub mod Fits
 pub mod Answers

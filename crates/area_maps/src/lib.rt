@@ -1,19 +1,43 @@
-// What the record of crate `areas` means: the maps, sets and lists of egui's Areas. There is nothing to run.
+// What the record of crate `areas` means: the maps, sets and lists of egui's Areas. Theorems
+// only, nothing to run. In them a record is any value of its type: its tables are of any length.
 #![tactic(auto)]
 
-ghost use Rattle.std.specs.Prelude.{◌≡◌};
+ghost use Rattle.std.specs.Prelude.{◌≡◌, ℕ};
 ghost use Rattle.refusal.specs.Limits.{layers};
-ghost use Rattle.area.specs.declared.AreaState.{AreaState};
-ghost use Rattle.layers.specs.declared.LayerId.{LayerId};
 ghost use Rattle.layer_queries.specs.declared.Listing.TheVariants.{All};
-ghost use Rattle.areas.specs.Areas.{layers_of, state_set, to_top_of, sublayer_set};
+ghost use Rattle.areas.specs.declared.Areas.{Areas};
+ghost use Rattle.areas.specs.Areas.{new_areas, layers_of};
 ghost use Rattle.area_maps.specs.Egui as Egui;
 ghost use Rattle.stacking.specs.Stacking.{Distinct, Orders, Pairs};
 ghost use Rattle.area_maps.specs.Meaning.{meaning_of};
-ghost use Rattle.area_maps.specs.Calls.{Calls, record_after, egui_after};
-ghost use Rattle.area_maps.specs.Answers.{LayerAnswers, AreaAnswers};
+ghost use Rattle.area_maps.specs.Calls.{Calls, record_from, egui_from, record_after, egui_after};
+ghost use Rattle.area_maps.specs.Fits.{HasRoom, Fits, Blank, Empties};
+ghost use Rattle.area_maps.specs.Answers.{LayerAnswers, AreaAnswers, Refusals, Agrees};
 
-// After any list of calls, refused ones among them, the record holds what egui does after the same calls: all of its maps, sets and lists.
+// From any record that fits its tables, with any limit: after any list of calls, refused ones
+// among them, it agrees with what egui's Areas are after the same calls from what it meant. It
+// fits again, so more calls may follow. A reset may be any that leaves nothing held.
+pub fn any_record_agrees()
+    ensures { (limit : ℕ) (reset : Areas → Areas) (start : Areas) →
+        Empties limit reset → Fits limit start → (calls : Calls) →
+        Agrees limit (record_from reset start calls) (egui_from limit (meaning_of start) calls) }
+{}
+
+// A record that holds nothing fits, whatever stands in its tables, and means egui's empty Areas.
+pub fn blank_record_fits()
+    ensures { (limit : ℕ) (a : Areas) → HasRoom limit a → Blank a →
+        Fits limit a × (meaning_of a ≡ Egui.empty) }
+{}
+
+// A new record fits and holds nothing. To make one is a way to reset; and with any limit it is one
+// to put the counts to 0 and leave the tables.
+pub fn premises_can_be_met()
+    ensures { Fits layers new_areas × Blank new_areas × Empties layers (λ a. new_areas)
+        × ((limit : ℕ) → Empties limit (λ a. record a { count = 0; placed = 0; states = 0 })) }
+{}
+
+// So from a new record, where a reset makes a new one: after any list of calls, refused ones among
+// them, the record holds what egui does after the same calls, all of its maps, sets and lists.
 pub fn record_means_egui()
     ensures { (calls : Calls) → meaning_of (record_after calls) ≡ egui_after layers calls }
 {}
@@ -34,10 +58,7 @@ pub fn areas_answer_as_egui()
     ensures { (calls : Calls) → AreaAnswers (record_after calls) (egui_after layers calls) }
 {}
 
-// And the record refuses the next call exactly where document 01 says so.
+// And the record refuses the next call exactly where the table of refusals says so.
 pub fn refuses_as_the_table_says()
-    ensures { (calls : Calls) →
-        ((layer : LayerId) (state : AreaState) → (state_set (record_after calls) layer state).refusal ≡ Egui.set_state_refusal (egui_after layers calls) layers layer state)
-        × ((layer : LayerId) → (to_top_of (record_after calls) layer).refusal ≡ Egui.move_to_top_refusal (egui_after layers calls) layers layer)
-        × ((parent child : LayerId) → (sublayer_set (record_after calls) parent child).refusal ≡ Egui.set_sublayer_refusal (egui_after layers calls) layers parent child) }
+    ensures { (calls : Calls) → Refusals layers (record_after calls) (egui_after layers calls) }
 {}
