@@ -58,7 +58,7 @@ pub fn areas_answer_as_egui()
     ensures { (calls : Calls) → AreaAnswers (record_after calls) (egui_after layers calls) }
 {}
 
-// And the record refuses the next call exactly where the table of refusals says so.
+// And the record refuses the next call exactly where specs/Egui.antt says so, by its number.
 pub fn refuses_as_the_table_says()
     ensures { (calls : Calls) → Refusals layers (record_after calls) (egui_after layers calls) }
 {}

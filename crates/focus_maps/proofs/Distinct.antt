@@ -26,7 +26,7 @@ neither : (a b : Bool) → a || b ≡ false → (a ≡ false) × (b ≡ false)
 neither true b h = absurd (true≢false h)
 neither false b h = (refl, h)
 
-abbrev Distinct : List Candidate → Type 0
+abbrev pub Distinct : List Candidate → Type 0
 Distinct l = repeated (ids_of l) ≡ false
 
 -- ---- a part of the entries, in their order
@@ -60,7 +60,7 @@ updated_part used (e ∷ l) = go (rect_in used e.id) (updated_part used l)
     go None p = part_less e (updated used l) l p
     go (Some rect) p = part_more e rect (updated used l) l p
 
-ended_distinct : (nav : Nav) (held used : List Candidate) → Distinct held → Distinct (cache_ended nav held used)
+pub ended_distinct : (nav : Nav) (held used : List Candidate) → Distinct held → Distinct (cache_ended nav held used)
 unfolding cache_ended refreshed
 ended_distinct nav held used h = go (is_cardinal nav.focus_direction) (eqb nav.focused 0)
   where
@@ -109,7 +109,7 @@ module _ (f : Focus) (h : Distinct (held_of f)) where
   accepted_distinct (SetFocusLockFilter id filter) e = h
   accepted_distinct (MoveFocus direction) e = h
 
-  done_distinct : (call : Call) → Distinct (held_of (done_by call f).focus)
+  pub done_distinct : (call : Call) → Distinct (held_of (done_by call f).focus)
   done_distinct call = rw (leaves f call) (go (refusal_of (limit f) call (meaning_of f)) refl)
     where
       go : (r : ℕ) → refusal_of (limit f) call (meaning_of f) ≡ r → Distinct (held_of (kept r f (accepted call f)))

@@ -15,12 +15,12 @@ use Rattle.focus_rules.specs.declared.Nav.{Nav}
 use Rattle.focus_maps.specs.Egui as EguiFocus
 use Rattle.focus_maps.proofs.Means.{focused_means, is_means, focused_answer}
 use Rattle.memory_rules.specs.declared.Memory.{Memory}
-use Rattle.memory_rules.specs.State.{areas_of, focus_of, nav_of, popup_of}
+use Rattle.memory_rules.specs.State.{areas_of, nav_of, popup_of}
 use Rattle.memory_rules.specs.Memory.{rect_in, area_rect, is_popup_open}
 use Rattle.memory_maps.specs.Egui as Egui
 use Rattle.memory_maps.specs.Calls.{meaning_of}
 use Rattle.memory_maps.specs.Answers.{FocusAnswers, LayerAnswers, AreasAnswers, PopupAnswers}
-use Rattle.memory_maps.proofs.Fit.{Fit}
+use Rattle.memory_maps.specs.Fits.{Fits}
 use Rattle.memory_maps.proofs.Layers.{above_means, allowed_means, hit_means}
 use Rattle.memory_maps.proofs.Popups.{some_means, same_means, position_means}
 
@@ -63,7 +63,7 @@ module _ (m : Memory) where
   )
 
   -- ---- the layers
-  module _ (fit : Fit (areas_of m) (focus_of m)) where
+  module _ (layers cached : ℕ) (fit : Fits layers cached m) where
     abbrev a : Areas
     a = areas_of m
 
@@ -72,15 +72,15 @@ module _ (m : Memory) where
     rect (Some s) = refl
 
     pub areas_answers : AreasAnswers m e
-    areas_answers = (area_layer_answers a fit.sound.sound, area_answers a fit.sound.sound)
+    areas_answers = (area_layer_answers a fit.0.stack, area_answers a fit.0.stack)
 
     pub layer_answers : LayerAnswers m e
     unfolding area_rect layers_of
     layer_answers = (
       refl,
-      λ layer. ap (answer (layer_refusal layer)) (above_means m fit.sound.sound layer),
-      λ layer. ap (answer (layer_refusal layer)) (allowed_means m fit.sound.sound layer),
-      λ pos. hit_means m fit.sound.sound pos,
+      λ layer. ap (answer (layer_refusal layer)) (above_means m fit.0.stack layer),
+      λ layer. ap (answer (layer_refusal layer)) (allowed_means m fit.0.stack layer),
+      λ pos. hit_means m fit.0.stack pos,
       areas_answers.0.0,
       λ id. asked id _ _ (λ h. ap rect_in (areas_answers.1.1 id) ∙ rect (EguiAreas.get e.areas id)),
     )

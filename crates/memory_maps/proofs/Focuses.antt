@@ -84,6 +84,10 @@ module _ (f : Focus) (used : List Candidate) where
   fits : length entries ≤ room f
   fits = omega (arith, ended_length f.nav (held_of f) used, held_length f.count f.ids f.rects)
 
+  pub ended_held : (ended_with f used).refusal ≡ 0 → held_of (ended_with f used).focus ≡ entries
+  ended_held e =
+      ap held_of (ended_focus (sym ended_refusal ∙ e)) ∙ held_on (cache_of f) entries fits
+
   pub ended_leaves : (ended_with f used).refusal ≡ 0 → Leaves f (ended_with f used).focus (Egui.end_pass (meaning_of f) used)
   ended_leaves e =
       let same : (ended_with f used).focus ≡ left = ended_focus (sym ended_refusal ∙ e) in

@@ -1,57 +1,26 @@
--- Where the areas are sound, the record's tests about layers say what egui's do; and areas that are reset are sound and mean none. Assumes nothing.
-use Rattle.std.specs.Prelude.{◌≡◌, ℕ, min, Bool, true, false, cond, not, ◌&&◌, ◌||◌, eqb, ltb, List, []}
+-- Where the stack fits, the record's tests about layers say what egui's do. Assumes nothing.
+use Rattle.std.specs.Prelude.{◌≡◌, Bool, true, false, cond, not, ◌&&◌, ◌||◌, eqb, ltb}
 use mathlib.Core.Path.{refl, ap, ◌∙◌}
 use Rattle.std.specs.Prelude.{Option, None, Some}
-use native.Mathlib.Omega.{arith}
 use Rattle.emath.specs.declared.Pos2.{Pos2}
 use Rattle.layers.specs.declared.LayerId.{LayerId}
-use Rattle.stacking.specs.Stacking.{Distinct, Orders}
-use Rattle.layer_rows.specs.Rows.{held_rows, row_of, spot_in}
 use Rattle.layer_queries.specs.Queries.{compared}
-use Rattle.area_table.specs.Table.{Table, room_of, entries_of, entries_from, get_in}
-use Rattle.area_table.specs.Table as Table
 use Rattle.area_stack.specs.Stack.{layer_id_at as areasLayerIdAt}
 use Rattle.areas.specs.declared.Areas.{Areas}
 use Rattle.areas.specs.Areas.{stack_of, areas_in}
 use Rattle.area_maps.specs.Egui as EguiAreas
 use Rattle.area_maps.specs.Meaning.{meaning, entries_in}
 use Rattle.area_maps.specs.Meaning as Areas
-use Rattle.area_maps.proofs.Sound.{Sound, SoundAreas}
-use Rattle.area_maps.proofs.Pushed.{no_pairs}
+use Rattle.area_maps.specs.Fits.{StackFits}
 use Rattle.area_maps.proofs.Queries.{query_hit}
 use Rattle.area_maps.proofs.Answers.{compare_means}
 use Rattle.focus_rules.specs.Rules.{layer_or_nothing}
 use Rattle.memory_rules.specs.declared.Memory.{Memory}
 use Rattle.memory_rules.specs.State.{areas_of, nav_of}
-use Rattle.memory_rules.specs.Memory.{emptied, is_below, is_above, is_allowed, stays_modal, unless_below, layer_id_at}
+use Rattle.memory_rules.specs.Memory.{is_below, is_above, is_allowed, stays_modal}
+use Rattle.memory_rules.specs.Memory.{unless_below, layer_id_at}
 use Rattle.memory_maps.specs.Egui as Egui
 use Rattle.memory_maps.specs.Calls.{meaning_of}
-
--- ---- reset_areas
-no_rows : (words : List ℕ) → held_rows 0 words ≡ []
-unfolding held_rows
-no_rows words = refl
-
-no_entries : (t : Table) → entries_of t 0 ≡ []
-unfolding entries_of entries_from
-no_entries t = ap (λ (n : ℕ). entries_from t 0 n) none_held
-  where
-    none_held : min 0 (room_of t) ≡ 0
-    none_held = omega arith
-
-nothing_sound : Sound 0 [] []
-unfolding Distinct Orders Table.Distinct get_in row_of spot_in EguiAreas.empty
-nothing_sound = record { placed_held = omega arith; distinct = tt; orders = tt; pairs = no_pairs [] (λ p c. (EguiAreas.empty).sublayers p c) (λ p x. refl); entries_distinct = tt; entries_known = λ id h. absurd (h refl) }
-
-nothing_means : meaning 0 [] [] ≡ EguiAreas.empty
-unfolding EguiAreas.empty EguiAreas.place_in row_of spot_in
-nothing_means = refl
-
-pub emptied_sound : (limit : ℕ) (a : Areas) → SoundAreas limit a → SoundAreas limit (emptied a)
-emptied_sound limit a s = record { row_room = s.row_room; area_room = s.area_room; sound = rw (no_rows a.rows, no_entries (areas_in a)) nothing_sound }
-
-pub emptied_means : (a : Areas) → Areas.meaning_of (emptied a) ≡ EguiAreas.empty
-emptied_means a = (λ i. meaning 0 (no_rows a.rows i) (no_entries (areas_in a) i)) ∙ nothing_means
 
 -- ---- compare_order answers 0, 1 or 2
 at_least : (m : EguiAreas.Areas) (x y : LayerId) → not (eqb (EguiAreas.compare_order m x y) 0) ≡ Egui.is_equal_or_greater (EguiAreas.compare_order m x y)
@@ -68,7 +37,8 @@ at_least m x y = go (eqb x.order y.order)
     go false = three (ltb x.order y.order) (ltb y.order x.order)
 
 -- ---- the tests
-module _ (m : Memory) (s : Sound (areas_of m).placed (stack_of (areas_of m)) (entries_in (areas_of m))) where
+module _ (m : Memory)
+    (s : StackFits (areas_of m).placed (stack_of (areas_of m)) (entries_in (areas_of m))) where
   abbrev a : Areas
   a = areas_of m
 

@@ -1,5 +1,6 @@
--- What the record answers, and what egui's Memory does: that they are the same, query by query and for every argument. Definitions only.
-use Rattle.std.specs.Prelude.{◌≡◌, ℕ}
+-- That a record agrees with egui's Memory: it means and answers the same, query by query and for
+-- every argument, and refuses the next call as Calls.antt says. Definitions only.
+use Rattle.std.specs.Prelude.{◌≡◌, ℕ, false}
 use Rattle.refusal.specs.Refusal.{id_refusal, answer}
 use Rattle.emath.specs.declared.Pos2.{Pos2}
 use Rattle.layers.specs.declared.LayerId.{LayerId}
@@ -10,8 +11,13 @@ use Rattle.focus_rules.specs.Rules.{id_or_nothing, layer_or_nothing}
 use Rattle.memory_rules.specs.declared.Memory.{Memory}
 use Rattle.memory_rules.specs.State.{areas_of, nav_of}
 use Rattle.memory_rules.specs.Memory.{above_answer, allows_answer, layer_id_at, had_focus, has_focus, lost_focus, gained_focus, of_id, area_rect, is_popup_open, any_popup_open, position_answer}
+use Rattle.memory_rules.specs.Calls.{Call, done_by}
+use Rattle.area_table.specs.Table.{Distinct}
 use Rattle.area_maps.specs.Answers as Areas
+use Rattle.used.specs.Used.{ids_of, repeated}
 use Rattle.memory_maps.specs.Egui as Egui
+use Rattle.memory_maps.specs.Calls.{meaning_of, refusal_of}
+use Rattle.memory_maps.specs.Fits.{Fits}
 
 -- ---- a query with an id is refused where the id is 0, one with a layer where that is none; the others answer always
 abbrev pub FocusAnswers : Memory → Egui.Memory → Type 0
@@ -44,3 +50,17 @@ PopupAnswers m e =
 -- the queries of `areas()`, passed through
 abbrev pub AreasAnswers : Memory → Egui.Memory → Type 0
 AreasAnswers m e = Areas.LayerAnswers (areas_of m) e.areas × Areas.AreaAnswers (areas_of m) e.areas
+
+-- ---- all of it, and the refusal of the next call, of a record that fits its tables
+pub record Agrees (layers cached : ℕ) (m : Memory) (e : Egui.Memory) : Type 0 where
+  pub fits : Fits layers cached m
+  pub means : meaning_of m ≡ e
+  pub refusals : (call : Call) → (done_by call m).refusal ≡ refusal_of layers cached call e
+  pub focus_answers : FocusAnswers m e
+  pub layer_answers : LayerAnswers m e
+  pub areas_answers : AreasAnswers m e
+  pub popup_answers : PopupAnswers m e
+
+-- ---- no id has two states, and none is cached twice: the lists of entries are maps
+abbrev pub AreMaps : Egui.Memory → Type 0
+AreMaps e = Distinct e.areas.areas × (repeated (ids_of e.focus.focus_widgets_cache) ≡ false)

@@ -84,10 +84,18 @@ egui_step layers cached call m = kept (refusal_of layers cached call m) m (egui_
 abbrev pub Calls : Type 0
 Calls = List Call
 
-unfoldable pub record_after : Calls → Memory
-record_after [] = new_memory
-record_after (call ∷ before) = (done_by call (record_after before)).memory
+unfoldable pub record_from : Memory → Calls → Memory
+record_from start [] = start
+record_from start (call ∷ before) = (done_by call (record_from start before)).memory
 
-unfoldable pub egui_after : ℕ → ℕ → Calls → Egui.Memory
-egui_after layers cached [] = Egui.empty
-egui_after layers cached (call ∷ before) = egui_step layers cached call (egui_after layers cached before)
+unfoldable pub egui_from : ℕ → ℕ → Egui.Memory → Calls → Egui.Memory
+egui_from layers cached start [] = start
+egui_from layers cached start (call ∷ before) =
+    egui_step layers cached call (egui_from layers cached start before)
+
+-- ---- both from new ones
+abbrev pub record_after : Calls → Memory
+record_after calls = record_from new_memory calls
+
+abbrev pub egui_after : ℕ → ℕ → Calls → Egui.Memory
+egui_after layers cached calls = egui_from layers cached Egui.empty calls

@@ -1,3 +1,4 @@
 pub mod Egui
 pub mod Calls
+pub mod Fits
 pub mod Answers
