@@ -2,6 +2,7 @@
 -- every argument, and refuses the next call as Egui.antt says. Definitions only.
 use Rattle.std.specs.Prelude.{◌≡◌, ℕ, length}
 use Rattle.emath.specs.declared.Pos2.{Pos2}
+use Rattle.area.specs.declared.AreaState.{AreaState}
 use Rattle.layers.specs.declared.LayerId.{LayerId}
 use Rattle.layer_rows.specs.Rows.{held_rows, row_of}
 use Rattle.layer_queries.specs.Queries.{shown_last, is_visible_row, is_sublayer_row, is_top_row, parent_in, last_of, compared_by}
@@ -9,7 +10,6 @@ use Rattle.layer_queries.specs.declared.Listing.TheVariants.{All, Visible, Child
 use Rattle.area_table.specs.Table.{held_in, held_of}
 use Rattle.area_stack.specs.Stack.{layer_id_at, is_interactable}
 use Rattle.areas.specs.declared.Areas.{Areas}
-use Rattle.area.specs.declared.AreaState.{AreaState}
 use Rattle.areas.specs.Areas.{stack_of, areas_in, tables_of, layers_of, windows_of}
 use Rattle.areas.specs.Areas.{state_set, to_top_of, sublayer_set}
 use Rattle.area_maps.specs.Egui as Egui

@@ -13,7 +13,7 @@ use Rattle.areas.specs.Areas.{stack_of, areas_in}
 use Rattle.area_maps.specs.Meaning.{layers_in, child_in, entries_in}
 
 -- the table of the layers has room for as many as the limit says, and that of the states for no
--- fewer
+-- fewer, so that it is never full before the other is
 pub record HasRoom (limit : ℕ) (a : Areas) : Type 0 where
   pub rows : room_in a.rows ≡ limit
   pub states : limit ≤ room_of (areas_in a)
@@ -21,7 +21,7 @@ pub record HasRoom (limit : ℕ) (a : Areas) : Type 0 where
 abbrev pub has_id : ℕ → LayerId → Bool
 has_id id layer = eqb layer.id id
 
--- of the rows that are held, how many have a place, and the entries of the states
+-- what is held: rows of layers, of which the first so many have a place, and entries of states
 pub record StackFits (placed : ℕ) (rows : List Row) (entries : List Entry) : Type 0 where
   pub placed_held : placed ≤ length rows
   -- no layer stands twice, and Orders and pairs are such as calls leave them
