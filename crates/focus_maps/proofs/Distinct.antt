@@ -60,7 +60,8 @@ updated_part used (e ∷ l) = go (rect_in used e.id) (updated_part used l)
     go None p = part_less e (updated used l) l p
     go (Some rect) p = part_more e rect (updated used l) l p
 
-pub ended_distinct : (nav : Nav) (held used : List Candidate) → Distinct held → Distinct (cache_ended nav held used)
+pub ended_distinct : (nav : Nav) (held used : List Candidate)
+    → Distinct held → Distinct (cache_ended nav held used)
 unfolding cache_ended refreshed
 ended_distinct nav held used h = go (is_cardinal nav.focus_direction) (eqb nav.focused 0)
   where
