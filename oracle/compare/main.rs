@@ -4,8 +4,12 @@
 //!                                                     N lists, or as many as go into the seconds, but 20,000 of them in any case
 //!     compare file   FILE ORACLE PORT DIFFERENCES     one stored list
 //!     compare sample N SEED DIFFERENCES               prints the lines of N lists whose calls are ported
+//!     compare boxes  N SEED ORACLE PORT DIFFERENCES   N panel programs by README.md's rule for a confirm box, none of which may slip
+//!     compare boxes  careless N SEED ORACLE PORT DIFFERENCES
+//!                                                     N programs that break the rule, some of which must slip
 //!
 //! ORACLE and PORT may have arguments, after spaces. DIFFERENCES is docs/DIFFERENCES.md, which names the calls not ported yet.
+mod boxes;
 mod close_calls;
 mod domain;
 mod draw;
@@ -42,6 +46,12 @@ fn main() {
             compare_lists(number(n), number(seed), until, &pair(oracle, port, known))
         }
         ["file", file, oracle, port, known] => compare_file(file, &pair(oracle, port, known)),
+        ["boxes", "careless", n, seed, oracle, port, known] => {
+            boxes::careless(number(n), number(seed), &pair(oracle, port, known))
+        }
+        ["boxes", n, seed, oracle, port, known] => {
+            boxes::by_the_rule(number(n), number(seed), &pair(oracle, port, known))
+        }
         ["sample", n, seed, known] => sample(number(n), number(seed), &pair("", "", known)),
         _ => stop("usage: see oracle/README.md"),
     }
@@ -158,13 +168,18 @@ fn report(lines: &[String], pair: &Pair) -> ! {
     let least = shrink::shrink(pair, lines.to_vec());
     let (oracle, port) = pair.answers(&least);
     println!("shrunk to {} lines:", least.len());
+    show(&least, &oracle, &port);
+    process::exit(1)
+}
+
+/// Prints lines with both programs' answers.
+fn show(lines: &[String], oracle: &[String], port: &[String]) {
     let after = "(after the last line)".to_owned();
-    let most = least.len().max(oracle.len()).max(port.len());
+    let most = lines.len().max(oracle.len()).max(port.len());
     for place in 0..most {
-        let [line, a, b] = [&least, &oracle, &port].map(|all| all.get(place).unwrap_or(&after));
+        let [line, a, b] = [lines, oracle, port].map(|all| all.get(place).unwrap_or(&after));
         println!("  {line}\n    oracle {a}\n    port   {b}");
     }
-    process::exit(1)
 }
 
 fn sample(count: u64, seed: u64, pair: &Pair) {

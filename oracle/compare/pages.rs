@@ -2,23 +2,23 @@
 use crate::domain::spot;
 use crate::draw::{Draw, steps};
 
-struct Field {
-    id: u64,
-    layer: (u64, u64),
+pub struct Field {
+    pub id: u64,
+    pub layer: (u64, u64),
     /// In 32nds: min x, min y, max x, max y.
-    rect: [i64; 4],
+    pub rect: [i64; 4],
 }
 
-type Page = Vec<Field>;
+pub type Page = Vec<Field>;
 
 const TAB: u64 = 5;
 const SHIFT: u64 = 4;
 
-fn key(code: u64, modifiers: u64) -> String {
+pub fn key(code: u64, modifiers: u64) -> String {
     format!("k {code} 1 0 {modifiers}")
 }
 
-fn begin(events: &[String]) -> String {
+pub fn begin(events: &[String]) -> String {
     let mut line = format!("begin {}", events.len());
     for event in events {
         line.push(' ');
@@ -27,11 +27,11 @@ fn begin(events: &[String]) -> String {
     line
 }
 
-fn interest(field: &Field) -> String {
+pub fn interest(field: &Field) -> String {
     format!("interest {} {} {}", field.id, field.layer.0, field.layer.1)
 }
 
-fn end<'a>(fields: impl Iterator<Item = &'a Field>) -> String {
+pub fn end<'a>(fields: impl Iterator<Item = &'a Field>) -> String {
     let entries: Vec<String> = fields
         .map(|f| {
             let [x0, y0, x1, y1] = f.rect.map(steps);
@@ -49,7 +49,7 @@ fn rect(d: &mut Draw, layout: usize, place: i64) -> [i64; 4] {
     [x, y, x + width, y + height]
 }
 
-fn page(d: &mut Draw, count: usize, layer: (u64, u64)) -> Page {
+pub fn page(d: &mut Draw, count: usize, layer: (u64, u64)) -> Page {
     let layout = d.rng.below(5);
     let places = d.places(count);
     let ids = d.ids(count);
