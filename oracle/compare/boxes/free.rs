@@ -44,7 +44,6 @@ const OTHERS: &[&str] = &[
     "top_modal_layer",
     "focus_direction",
     "layer_ids",
-    "state",
 ];
 
 /// Calls that the rule does not leave free everywhere; `new` would leave no box.
@@ -137,7 +136,7 @@ impl Draft {
                 .to_owned(),
             6 => self.moved(),
             7 => match self.d.any_call() {
-                call if call == "new" => "state".to_owned(),
+                call if call == "new" => "focused".to_owned(),
                 call => call,
             },
             _ => self.free_call(),

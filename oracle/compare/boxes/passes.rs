@@ -55,24 +55,32 @@ impl Draft {
             let refused = self.d.rng.pick(&REFUSED_BEGINS);
             self.say(refused.to_owned());
         }
-        let count = if self.d.rng.percent(6) { 2 } else { 1 };
-        for _ in 0..count {
-            let events = self.events();
-            self.say(begin(&events));
+        if self.d.rng.percent(6) {
+            self.begin();
         }
+        self.begin();
     }
 
-    /// Keys and requests, also of what lies under the box.
+    pub fn begin(&mut self) {
+        let events = self.events();
+        self.say(begin(&events));
+    }
+
+    /// Keys and requests, most of these of what lies under the box.
     fn events(&mut self) -> Vec<String> {
         let count = self.d.rng.pick(&[0, 1, 1, 1, 1, 2, 3]);
-        let event = |_| match self.d.rng.below(10) {
-            0..2 => format!("a {}", self.panel.sheet(&mut self.d).id(&mut self.d)),
-            2 | 3 => key(5, 0),
-            4 | 5 => key(5, 4),
-            6..9 => key(self.d.rng.below(5) as u64, 0),
+        (0..count).map(|_| self.event()).collect()
+    }
+
+    fn event(&mut self) -> String {
+        match self.d.rng.below(12) {
+            0..2 => format!("a {}", self.panel.under(&mut self.d).id),
+            2 => format!("a {}", self.panel.sheet(&mut self.d).id(&mut self.d)),
+            3 | 4 => key(5, 0),
+            5 | 6 => key(5, 4),
+            7..11 => key(self.d.rng.below(5) as u64, 0),
             _ => self.d.event(),
-        };
-        (0..count).map(event).collect()
+        }
     }
 
     /// The areas, so that hits find something.
@@ -118,9 +126,11 @@ impl Draft {
     /// The box's modal layer or a higher one, and others besides. Before the opening there may be
     /// earlier boxes, mostly such as leave the box's layer let through.
     fn modal(&mut self) {
-        if !self.open && self.d.rng.percent(70) {
+        let needless = self.set && self.d.rng.percent(30);
+        if needless || !self.open && self.d.rng.percent(70) {
             return;
         }
+        self.set = true;
         let mut layers = Vec::new();
         let lower = self.panel.pages[0].layer;
         if self.d.rng.percent(15) {
@@ -181,6 +191,7 @@ impl Draft {
             let used = self.used();
             self.say(used);
             self.silent = false;
+            self.set = false;
         }
     }
 

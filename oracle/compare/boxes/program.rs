@@ -60,6 +60,8 @@ pub struct Draft {
     pub open: bool,
     /// The fields under the box make no interest call: no end was taken since the opening.
     pub silent: bool,
+    /// The modal layer was set since the last end.
+    pub set: bool,
     pub careless: Option<Careless>,
     /// How many fields came to a page while the box was open.
     pub late: u64,
@@ -81,6 +83,7 @@ pub fn program(seed: u64, number: u64, careless: bool) -> Program {
         lines: vec!["new".to_owned()],
         open: false,
         silent: false,
+        set: false,
         careless,
         late: 0,
         first: 0,
@@ -91,7 +94,7 @@ pub fn program(seed: u64, number: u64, careless: bool) -> Program {
 
 impl Draft {
     fn whole(mut self, number: u64) -> Program {
-        for _ in 0..self.d.rng.below(5) {
+        for _ in 0..self.d.rng.below(4) {
             self.pass();
         }
         self.before_opening();
@@ -102,10 +105,14 @@ impl Draft {
         if self.d.rng.percent(60) {
             self.ends();
         }
-        for _ in 0..3 + self.d.rng.below(10) {
+        let most = 3 + self.d.rng.below(10);
+        for _ in 0..3 + self.d.rng.below(most - 2) {
             self.pass();
         }
-        self.lines.push("state".to_owned());
+        // The port is slow to show its state.
+        if self.d.rng.percent(5) {
+            self.lines.push("state".to_owned());
+        }
         let pages = self.panel.pages.iter().flat_map(|page| page.ids());
         Program {
             number,
@@ -134,7 +141,7 @@ impl Draft {
     /// the cache, and what may be under way when a box is opened.
     fn before_opening(&mut self) {
         let within = self.d.rng.percent(60);
-        let full = self.d.rng.percent(6);
+        let full = self.d.rng.percent(4);
         if full {
             // No modal layer in force turns that page away.
             self.say("end 0".to_owned());
@@ -156,7 +163,8 @@ impl Draft {
             let id = self.panel.under(&mut self.d).id;
             self.say(format!("request_focus_next_frame {id}"));
         }
-        if full || self.d.rng.percent(10) {
+        // Where the cache is full and this is left out, a call of the opening is refused.
+        if self.d.rng.percent(if full { 90 } else { 10 }) {
             self.free_places();
         }
     }
@@ -196,7 +204,7 @@ impl Draft {
                 self.say(free);
             }
             if place == begun && self.careless == Some(Careless::BeginWithin) {
-                self.begins();
+                self.begin();
             }
             self.ask_first(&call);
             self.open = place == last;
@@ -204,6 +212,7 @@ impl Draft {
             self.last = self.lines.len();
             if place == 0 {
                 self.first = self.last;
+                self.set = true;
             }
             self.say(call);
         }
