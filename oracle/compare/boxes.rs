@@ -64,7 +64,7 @@ pub fn careless(count: u64, seed: u64, pair: &Pair) {
         ends.slipped + begins.slipped
     );
     println!(
-        "{} of {} that take a refused end for a taken one, {} of {} that begin a pass within the opening",
+        "{} of {} that take a refused end for a taken one, {} of {} that begin within the opening",
         ends.slipped, ends.drawn, begins.slipped, begins.drawn
     );
     if ends.slipped == 0 || begins.slipped == 0 {
