@@ -4,9 +4,10 @@
 //!                                                     N lists, or as many as go into the seconds, but 20,000 of them in any case
 //!     compare file   FILE ORACLE PORT DIFFERENCES     one stored list
 //!     compare sample N SEED DIFFERENCES               prints the lines of N lists whose calls are ported
-//!     compare boxes  N SEED ORACLE PORT DIFFERENCES   N panel programs by README.md's rule for a confirm box, none of which may slip
+//!     compare boxes  N SEED ORACLE PORT DIFFERENCES   N panel programs by README.md's rule for a
+//!                                                     confirm box; none may slip
 //!     compare boxes  careless N SEED ORACLE PORT DIFFERENCES
-//!                                                     N programs that break the rule, some of which must slip
+//!                                                     N that break the rule; some must slip
 //!
 //! ORACLE and PORT may have arguments, after spaces. DIFFERENCES is docs/DIFFERENCES.md, which names the calls not ported yet.
 mod boxes;
