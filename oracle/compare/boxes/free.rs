@@ -44,6 +44,7 @@ const OTHERS: &[&str] = &[
     "top_modal_layer",
     "focus_direction",
     "layer_ids",
+    "state",
 ];
 
 /// Calls that the rule does not leave free everywhere; `new` would leave no box.

@@ -109,10 +109,7 @@ impl Draft {
         for _ in 0..3 + self.d.rng.below(most - 2) {
             self.pass();
         }
-        // The port is slow to show its state.
-        if self.d.rng.percent(5) {
-            self.lines.push("state".to_owned());
-        }
+        self.lines.push("state".to_owned());
         let pages = self.panel.pages.iter().flat_map(|page| page.ids());
         Program {
             number,
