@@ -15,10 +15,14 @@ use Rattle.focus_rules.specs.Rules.{id_or_nothing}
 use Rattle.memory_rules.specs.declared.Memory.{Memory}
 use Rattle.memory_rules.specs.State.{nav_of, new_memory}
 use Rattle.memory_rules.specs.Memory.{layer_id_at}
-use Rattle.memory_rules.specs.Calls.{Call, done_by, IgnoreFocus, Begin, End, RequestFocus, RequestFocusNextFrame, MoveFocus, SetModalLayer, SetState, MoveToTop}
+use Rattle.memory_rules.specs.Calls.{Call, done_by, IgnoreFocus, Begin, End, RequestFocus}
+use Rattle.memory_rules.specs.Calls.{RequestFocusNextFrame, MoveFocus, SetModalLayer, SetState}
+use Rattle.memory_rules.specs.Calls.{MoveToTop}
 use Rattle.confirm_box.specs.KeptOut.{kept_out, may_focus, run, none_is}
-use Rattle.confirm_box.specs.Modal.{is_under, in_force, is_set, set_in_every_pass, asks_from_below, now_through, asks_by_rule, has_ended, keeps_under}
-use Rattle.confirm_box.specs.Rule.{Box, Spread, Opens, Fits, Spreads, wanting, opening, keeps_to_rule, all_held, cached_in}
+use Rattle.confirm_box.specs.Modal.{is_under, in_force, is_set, set_in_every_pass, asks_from_below}
+use Rattle.confirm_box.specs.Modal.{now_through, asks_by_rule, has_ended, keeps_under}
+use Rattle.confirm_box.specs.Rule.{Box, Spread, Opens, Fits, Spreads, wanting, opening}
+use Rattle.confirm_box.specs.Rule.{keeps_to_rule, all_held, cached_in}
 use Rattle.confirm_box.specs.Rule.{spread as spreadCalls}
 
 -- ---- the page with fields 11 and 12, and the box with 21 and 22
@@ -29,27 +33,45 @@ abbrev pub under : List ℕ
 under = 11 ∷ 12 ∷ []
 
 abbrev pub box : Box
-box = record { layer = record { order = 2; id = 9 }; fields = 21 ∷ 22 ∷ []; focus = 21; under = under; freed = [] }
+box = record {
+  layer = record { order = 2; id = 9 };
+  fields = 21 ∷ 22 ∷ [];
+  focus = 21;
+  under = under;
+  freed = [];
+}
 
 -- the pass so far: the page's interest calls, one of its fields focused, the other waiting for the
 -- next begin, and the focus to go to the field before
 unfoldable pub start : Memory
-start = run new_memory (SetState page default_state ∷ (wanting page under ++ (RequestFocus 11 ∷ RequestFocusNextFrame 12 ∷ MoveFocus previous ∷ [])))
+start =
+    run new_memory (SetState page default_state ∷ (wanting page under
+    ++ (RequestFocus 11 ∷ RequestFocusNextFrame 12 ∷ MoveFocus previous ∷ [])))
 
 -- field 11 kept out by the same calls with others between them
 abbrev pub spread : Spread
-spread = record { id = 21; layer = box.layer; between = SetModalLayer box.layer ∷ wanting box.layer (22 ∷ []); after = MoveToTop box.layer ∷ []; focus = 22 }
+spread = record {
+  id = 21;
+  layer = box.layer;
+  between = SetModalLayer box.layer ∷ wanting box.layer (22 ∷ []);
+  after = MoveToTop box.layer ∷ [];
+  focus = 22;
+}
 
 -- ---- all four are used, at one place
 abbrev pub origin : Pos2
 origin = record { x = of_bits binary32 0; y = of_bits binary32 0 }
 
 abbrev pub used : List Candidate
-used = map (λ (id : ℕ). record { id = id; rect = record { min = origin; max = origin } }) (under ++ box.fields)
+used =
+    map (λ (id : ℕ). record { id = id; rect = record { min = origin; max = origin } })
+    (under ++ box.fields)
 
 -- a pass while the box is open: the page makes its interest calls as ever
 abbrev pub passing : List Call
-passing = SetModalLayer box.layer ∷ (wanting page under ++ (wanting box.layer box.fields ++ (End used ∷ [])))
+passing =
+    SetModalLayer box.layer
+    ∷ (wanting page under ++ (wanting box.layer box.fields ++ (End used ∷ [])))
 
 -- the end of the pass in which it was opened; then a Shift+Tab on the box's first field, and a
 -- request of a field under it
@@ -76,12 +98,14 @@ pub record Met : Type 0 where
   pub every_pass : set_in_every_pass 2 (is_set 2 shown) shown later ≡ true
   pub from_below : list_all (asks_from_below 2 11) later ≡ true
   pub held : all_held (cached_in start) under ≡ true
-  pub ignored : none_is (may_focus 11) (done_by (IgnoreFocus 11) start).memory (End used ∷ []) ≡ true
+  pub ignored : (
+      none_is (may_focus 11) (done_by (IgnoreFocus 11) start).memory (End used ∷ []) ≡ true)
   pub by_rule : keeps_to_rule box opened calls ≡ true
   pub spread_by_rule : (
       let after = run start (spreadCalls 11 spread) in
-      (set_in_every_pass 2 (now_through 2 (is_set 2 start) start (spreadCalls 11 spread)) after calls ≡ true)
-      × (asks_by_rule 2 11 false after calls ≡ true))
-  pub touches : (layer_id_at opened origin ≡ Some page) × (layer_id_at shown origin ≡ Some box.layer)
+      let now = now_through 2 (is_set 2 start) start (spreadCalls 11 spread) in
+      (set_in_every_pass 2 now after calls ≡ true) × (asks_by_rule 2 11 false after calls ≡ true))
+  pub touches : (
+      (layer_id_at opened origin ≡ Some page) × (layer_id_at shown origin ≡ Some box.layer))
   pub ended : has_ended opened (take 1 calls) ≡ true
   pub focused : id_or_nothing (nav_of (run opened calls)).focused ≡ Some 22

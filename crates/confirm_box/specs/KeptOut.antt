@@ -9,7 +9,8 @@ use Rattle.focus_maps.specs.Egui.{is}
 use Rattle.memory_rules.specs.declared.Memory.{Memory}
 use Rattle.memory_rules.specs.State.{focus_of, nav_of}
 use Rattle.memory_rules.specs.Memory.{is_allowed}
-use Rattle.memory_rules.specs.Calls.{Call, Begin, Interest, RequestFocus, RequestFocusNextFrame, done_by}
+use Rattle.memory_rules.specs.Calls.{Call, Begin, Interest, RequestFocus, RequestFocusNextFrame}
+use Rattle.memory_rules.specs.Calls.{done_by}
 
 module _ (m : Memory) (p : ℕ) where
   -- `Memory::focused() == Some(p)`, and so on: 0 is no id
@@ -75,4 +76,5 @@ none_is such m (call ∷ calls) = not (such m call) && none_is such (done_by cal
 -- after each call of a list, from this state, p is kept out, and not focused
 abbrev pub StaysOut : ℕ → Memory → List Call → Type 0
 StaysOut p m calls =
-    (n : ℕ) → (kept_out (run m (take n calls)) p ≡ true) × (is_focused (run m (take n calls)) p ≡ false)
+    (n : ℕ) →
+    (kept_out (run m (take n calls)) p ≡ true) × (is_focused (run m (take n calls)) p ≡ false)

@@ -1,6 +1,7 @@
 -- The modal layer in force (memory/mod.rs, lines 962 to 1019), and what a program keeps to while
 -- its confirm box is open. Definitions only.
-use Rattle.std.specs.Prelude.{ℕ, ◌≡◌, ◌≤◌, Bool, true, false, not, cond, ◌&&◌, ◌||◌, Some, eqb, ltb, leb}
+use Rattle.std.specs.Prelude.{ℕ, ◌≡◌, ◌≤◌, Bool, true, false, not, cond, ◌&&◌, ◌||◌, Some, eqb, ltb}
+use Rattle.std.specs.Prelude.{leb}
 use Rattle.std.specs.Prelude.{List, [], ◌∷◌, take}
 use Rattle.emath.specs.declared.Pos2.{Pos2}
 use Rattle.layers.specs.declared.LayerId.{LayerId}
@@ -70,8 +71,8 @@ asks_by_rule order p shown m (call ∷ calls) =
     (not (asks_for p call) || is_lower order shown call)
     && asks_by_rule order p (shown || ends_pass m call) (done_by call m).memory calls
 
--- whether an end of a list is taken; and touches: after each call by which one has been, no hit answers
--- a layer of a lower Order
+-- whether an end of a list is taken; and touches: after each call by which one has been, no hit
+-- answers a layer of a lower Order
 abbrev pub has_ended : Memory → List Call → Bool
 has_ended m calls = not (none_is ends_pass m calls)
 

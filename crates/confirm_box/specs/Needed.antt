@@ -1,6 +1,7 @@
 -- What each part of a definition is needed for: short lists of calls, in each of which one part
 -- alone is in the way, and which let field 12 in. Definitions only.
-use Rattle.std.specs.Prelude.{ℕ, zero, suc, ◌≡◌, Bool, true, false, not, ◌&&◌, List, [], ◌∷◌, map, replicate}
+use Rattle.std.specs.Prelude.{ℕ, zero, suc, ◌≡◌, Bool, true, false, not, ◌&&◌, List, [], ◌∷◌, map}
+use Rattle.std.specs.Prelude.{replicate}
 use Rattle.std.specs.Float.{binary32}
 use Rattle.std.specs.Float.Ieee.{of_bits}
 use Rattle.std.specs.List.{list_all}
@@ -11,9 +12,13 @@ use Rattle.layers.specs.declared.LayerId.{LayerId}
 use Rattle.search.specs.declared.Candidate.{Candidate}
 use Rattle.memory_rules.specs.declared.Memory.{Memory}
 use Rattle.memory_rules.specs.State.{new_memory}
-use Rattle.memory_rules.specs.Calls.{Call, Begin, Interest, End, RequestFocus, RequestFocusNextFrame, IgnoreFocus, MoveFocus, SetModalLayer, done_by}
-use Rattle.confirm_box.specs.KeptOut.{is_focused, waits, was_last, is_cached, kept_out, lets_in, may_focus, run, none_is}
-use Rattle.confirm_box.specs.Modal.{in_force, is_set, set_in_every_pass, asks_from_below, asks_by_rule, keeps_under}
+use Rattle.memory_rules.specs.Calls.{Call, Begin, Interest, End, RequestFocus}
+use Rattle.memory_rules.specs.Calls.{RequestFocusNextFrame, IgnoreFocus, MoveFocus, SetModalLayer}
+use Rattle.memory_rules.specs.Calls.{done_by}
+use Rattle.confirm_box.specs.KeptOut.{is_focused, waits, was_last, is_cached, kept_out, lets_in}
+use Rattle.confirm_box.specs.KeptOut.{may_focus, run, none_is}
+use Rattle.confirm_box.specs.Modal.{in_force, is_set, set_in_every_pass, asks_from_below}
+use Rattle.confirm_box.specs.Modal.{asks_by_rule, keeps_under}
 use Rattle.confirm_box.specs.Instance.{page, box}
 
 -- from a new memory: calls, and more calls after them
@@ -50,10 +55,14 @@ part_cases =
     ∷ []
 
 abbrev pub one_each : List (List Bool)
-one_each = (true ∷ false ∷ false ∷ false ∷ []) ∷ (false ∷ true ∷ false ∷ false ∷ []) ∷ (false ∷ false ∷ true ∷ false ∷ []) ∷ (false ∷ false ∷ false ∷ true ∷ []) ∷ []
+one_each =
+    (true ∷ false ∷ false ∷ false ∷ []) ∷ (false ∷ true ∷ false ∷ false ∷ [])
+    ∷ (false ∷ false ∷ true ∷ false ∷ []) ∷ (false ∷ false ∷ false ∷ true ∷ []) ∷ []
 
 abbrev pub slips : Case → Bool
-slips c = not (kept_out (first_of c) 12) && (none_is (lets_in 12) (first_of c) c.calls && is_focused (last_of c) 12)
+slips c =
+    not (kept_out (first_of c) 12)
+    && (none_is (lets_in 12) (first_of c) c.calls && is_focused (last_of c) 12)
 
 -- ---- the three calls: each lets 12 in
 abbrev pub three : List Call
@@ -69,7 +78,9 @@ used = []
 
 -- refused, since id 0 is none
 abbrev pub bad_used : List Candidate
-bad_used = let origin : Pos2 = record { x = of_bits binary32 0; y = of_bits binary32 0 } in record { id = 0; rect = record { min = origin; max = origin } } ∷ []
+bad_used =
+    let origin : Pos2 = record { x = of_bits binary32 0; y = of_bits binary32 0 } in
+    record { id = 0; rect = record { min = origin; max = origin } } ∷ []
 
 abbrev pub layer_of : ℕ → LayerId
 layer_of order = record { order = order; id = 8 }
@@ -140,7 +151,9 @@ rule_cases =
 
 -- at length, of all of these
 abbrev pub at_length : Case → Bool
-at_length c = keeps_under 2 12 (in_force 2 (first_of c)) (is_set 2 (first_of c)) (first_of c) c.calls
+at_length c =
+    let m = first_of c in
+    keeps_under 2 12 (in_force 2 m) (is_set 2 m) m c.calls
 
 -- and each lets 12 in, which was kept out
 abbrev pub lets_12_in : ℕ × Case → Bool

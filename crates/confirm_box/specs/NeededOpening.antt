@@ -1,6 +1,7 @@
 -- What each premise of the opening is needed for: openings in which one of them alone does not
 -- hold, and what then goes wrong. Definitions only.
-use Rattle.std.specs.Prelude.{ℕ, ◌+◌, Bool, not, ◌&&◌, List, [], ◌∷◌, eqb, leb, length, ◌*◌, replicate}
+use Rattle.std.specs.Prelude.{ℕ, ◌+◌, Bool, not, ◌&&◌, List, [], ◌∷◌, eqb, leb, length, ◌*◌}
+use Rattle.std.specs.Prelude.{replicate}
 use Rattle.std.specs.Float.{binary32}
 use Rattle.std.specs.Float.Ieee.{of_bits}
 use Rattle.layers.specs.declared.LayerId.{LayerId}
@@ -9,9 +10,11 @@ use Rattle.used.specs.Used.{elem, repeated}
 use Rattle.memory_rules.specs.declared.Memory.{Memory}
 use Rattle.memory_rules.specs.State.{new_memory, nav_of, with_focus}
 use Rattle.memory_rules.specs.Memory.{is_allowed}
-use Rattle.memory_rules.specs.Calls.{Call, Begin, Interest, End, RequestFocus, RequestFocusNextFrame, SetModalLayer}
+use Rattle.memory_rules.specs.Calls.{Call, Begin, Interest, End, RequestFocus}
+use Rattle.memory_rules.specs.Calls.{RequestFocusNextFrame, SetModalLayer}
 use Rattle.confirm_box.specs.KeptOut.{is_taken, kept_out, run, none_is}
-use Rattle.confirm_box.specs.Rule.{Box, Spread, opening, spread, ignoring, disturbs, is_refused, cached_in, room, new_in, all_held}
+use Rattle.confirm_box.specs.Rule.{Box, Spread, opening, spread, ignoring, disturbs, is_refused}
+use Rattle.confirm_box.specs.Rule.{cached_in, room, new_in, all_held}
 use Rattle.confirm_box.specs.Needed.{on_page, layer_of, used}
 
 -- a memory whose cache has so many places, the first of which holds this id

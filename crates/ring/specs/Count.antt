@@ -1,6 +1,7 @@
 -- The count of document 01, "The ring": from the field ids in order, the id focused at the start,
 -- each call with its arguments and whether it was refused, and from nothing else. Definitions only.
-use Rattle.std.specs.Prelude.{ℕ, zero, suc, Bool, false, not, cond, ◌&&◌, List, [], ◌∷◌, eqb, length, get_or}
+use Rattle.std.specs.Prelude.{ℕ, zero, suc, Bool, false, not, cond, ◌&&◌, List, [], ◌∷◌, eqb}
+use Rattle.std.specs.Prelude.{length, get_or}
 use Rattle.input.specs.declared.Event.{Event}
 use Rattle.input.specs.declared.Event.TheVariants.{Key, AccessKitFocus, Pointer, Zoom, Other}
 use Rattle.input.specs.Key.{tab}
@@ -37,7 +38,8 @@ back n (suc place) = place
 -- a begin's sole event: Tab adds 1, Shift+Tab takes 1, and all else leaves the place
 unfoldable pub turned_by : ℕ → List Event → ℕ → ℕ
 turned_by n [] place = place
-turned_by n (e ∷ []) place = cond (is_tab e) (forward n place) (cond (is_shift_tab e) (back n place) place)
+turned_by n (e ∷ []) place =
+    cond (is_tab e) (forward n place) (cond (is_shift_tab e) (back n place) place)
 turned_by n (e ∷ d ∷ events) place = place
 
 abbrev pub moved_by : ℕ → Call → ℕ → ℕ
@@ -56,4 +58,5 @@ place_of (x ∷ fields) id = cond (eqb x id) 0 (suc (place_of fields id))
 
 -- the field id at the place that is counted
 unfoldable pub count_of : List ℕ → ℕ → List Made → ℕ
-count_of fields start calls = get_or fields (counted (length fields) (place_of fields start) calls) 0
+count_of fields start calls =
+    get_or fields (counted (length fields) (place_of fields start) calls) 0

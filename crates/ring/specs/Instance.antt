@@ -27,7 +27,10 @@ abbrev pub corner : ℕ → Pos2
 corner bits = record { x = of_bits binary32 bits; y = of_bits binary32 bits }
 
 abbrev pub used : List Candidate
-used = record { id = 11; rect = record { min = corner 0; max = corner 1073741824 } } ∷ record { id = 12; rect = record { min = corner 1077936128; max = corner 1084227584 } } ∷ []
+used =
+    record { id = 11; rect = record { min = corner 0; max = corner 1073741824 } }
+    ∷ record { id = 12; rect = record { min = corner 1077936128; max = corner 1084227584 } }
+    ∷ []
 
 -- ---- the keys; one of them has modifiers that no key has, and its begin is refused
 abbrev pub tab_down : Event
@@ -44,7 +47,14 @@ abbrev pub calling : List Event → List Call
 calling events = Begin events ∷ Interest 11 layer ∷ Interest 12 layer ∷ End used ∷ []
 
 abbrev pub passing : List Event → Pass
-passing events = record { events = events; wants = record { id = 11; layer = layer; turned_away = false } ∷ record { id = 12; layer = layer; turned_away = false } ∷ []; used = used }
+passing events = record {
+  events = events;
+  wants =
+      record { id = 11; layer = layer; turned_away = false }
+      ∷ record { id = 12; layer = layer; turned_away = false }
+      ∷ [];
+  used = used;
+}
 
 -- ---- the start: Tab on a new page focuses the first field
 abbrev pub first : List Call
@@ -56,7 +66,9 @@ start = run new_memory first
 -- ---- Tab, Tab again and Shift+Tab, each with a quiet pass after it; two of the calls are refused
 abbrev pub calls : List Call
 calls =
-    calling (tab_down ∷ []) ++ (calling [] ++ ((Begin (bad_tab_down ∷ []) ∷ Begin (tab_down ∷ []) ∷ Interest 11 layer ∷ Interest 0 layer ∷ Interest 12 layer ∷ End used ∷ [])
+    calling (tab_down ∷ []) ++ (calling []
+    ++ ((Begin (bad_tab_down ∷ []) ∷ Begin (tab_down ∷ [])
+    ∷ Interest 11 layer ∷ Interest 0 layer ∷ Interest 12 layer ∷ End used ∷ [])
     ++ (calling [] ++ (calling (shift_tab_down ∷ []) ++ calling []))))
 
 abbrev pub passes : List Pass

@@ -1,6 +1,7 @@
 -- The premises of demand 3 (../shared/00-demands.md), each a definition beside its words.
 -- Definitions only.
-use Rattle.std.specs.Prelude.{ℕ, ◌≡◌, Bool, true, false, not, cond, ◌&&◌, ◌||◌, List, [], ◌∷◌, ◌++◌, map}
+use Rattle.std.specs.Prelude.{ℕ, ◌≡◌, Bool, true, false, not, cond, ◌&&◌, ◌||◌, List, [], ◌∷◌, ◌++◌}
+use Rattle.std.specs.Prelude.{map}
 use Rattle.input.specs.declared.Event.{Event}
 use Rattle.layers.specs.declared.LayerId.{LayerId}
 use Rattle.search.specs.declared.Candidate.{Candidate}
@@ -88,7 +89,8 @@ starts_quiet (p ∷ passes) = is_quiet p.events
 
 unfoldable pub are_presses : List Pass → Bool
 are_presses [] = true
-are_presses (p ∷ passes) = (is_quiet p.events || (is_press p.events && starts_quiet passes)) && are_presses passes
+are_presses (p ∷ passes) =
+    (is_quiet p.events || (is_press p.events && starts_quiet passes)) && are_presses passes
 
 -- ---- "distinct fields"
 abbrev pub Distinct : List ℕ → Type 0
@@ -121,13 +123,15 @@ pub record Rests (fields : List ℕ) (m : Memory) : Type 0 where
   pub last_interested : (nav_of m).last_interested ≡ last_of 0 fields
 
 -- ---- the list of calls, from a state
-pub record Rounds (fields : List ℕ) (m : Memory) (calls : List Call) (passes : List Pass) : Type 0 where
+pub record Rounds (fields : List ℕ) (m : Memory) (calls : List Call) (passes : List Pass)
+    : Type 0 where
   pub whole : WholePasses (accepted m calls) passes
   pub register : AllRegister fields passes
   pub presses : are_presses passes ≡ true
 
 -- on a page of distinct fields, from a start
-pub record Turns (fields : List ℕ) (m : Memory) (calls : List Call) (passes : List Pass) : Type 0 where
+pub record Turns (fields : List ℕ) (m : Memory) (calls : List Call) (passes : List Pass)
+    : Type 0 where
   pub distinct : Distinct fields
   pub start : Start fields m
   pub rounds : Rounds fields m calls passes

@@ -18,8 +18,10 @@ ghost use Rattle.ring.specs.Instance as Instance;
 /// that is found by counting one place on per Tab and one back per Shift+Tab. There is nothing to
 /// run.
 pub fn ring()
-    ensures { (fields : List ℕ) (m : Memory) (calls : List Call) (passes : List Pass) → Turns fields m calls passes →
-        id_or_nothing (nav_of (run m calls)).focused ≡ Some (count_of fields (nav_of m).focused (made m calls)) }
+    ensures { (fields : List ℕ) (m : Memory) (calls : List Call) (passes : List Pass) →
+        Turns fields m calls passes →
+        id_or_nothing (nav_of (run m calls)).focused
+        ≡ Some (count_of fields (nav_of m).focused (made m calls)) }
 {}
 
 /// All that the ring needs of its start: from every state in which one of the fields is focused,
