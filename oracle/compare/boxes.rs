@@ -68,7 +68,7 @@ pub fn careless(count: u64, seed: u64, pair: &Pair) {
         ends.slipped, ends.drawn, begins.slipped, begins.drawn
     );
     if ends.slipped == 0 || begins.slipped == 0 {
-        stop("no careless program slipped: the judge sleeps");
+        stop("of one of the two kinds none slipped: the judge sleeps");
     }
 }
 
