@@ -1,9 +1,9 @@
-//! The focus for C and Rust programs, as crate `board` has the rest: numbers, records of numbers and
-//! slices. A slice is two arguments in C, where it starts and how many elements it has. Each function
-//! gives what the one that it calls gives.
+//! The focus for C and Rust programs, as crate `board` has the rest: numbers, records of numbers
+//! and slices. A slice is two arguments in C, where it starts and how many elements it has. Each
+//! function gives what the one that it calls gives.
 //!
-//! The focus alone: an interest call here is let through whatever modal layer is in force, which only
-//! `Memory` asks, and no theorem of the ring or of the confirm box is about these functions.
+//! The focus alone: an interest call here is let through whatever modal layer is in force, which
+//! only `Memory` asks, and no theorem of the ring or of the confirm box is about these functions.
 #![tactic(auto)]
 
 ghost use Rattle.std.specs.Prelude.{◌≡◌, IfOk};

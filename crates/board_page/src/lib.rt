@@ -1,8 +1,8 @@
-//! Interest calls for a whole page in one call, for C and Rust programs. It stands alone in its library,
-//! so that the loop has the core inside it.
+//! Interest calls for a whole page in one call, for C and Rust programs. It stands alone in its
+//! library, so that the loop has the core inside it.
 //!
-//! The focus alone: an interest call here is let through whatever modal layer is in force, which only
-//! `Memory` asks, and no theorem of the ring or of the confirm box is about these functions.
+//! The focus alone: an interest call here is let through whatever modal layer is in force, which
+//! only `Memory` asks, and no theorem of the ring or of the confirm box is about these functions.
 #![tactic(auto)]
 
 ghost use Rattle.std.specs.Prelude.{◌≡◌};

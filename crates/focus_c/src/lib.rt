@@ -1,8 +1,8 @@
 //! The thin forms of crate `focus` for C and Rust programs: begin, interest and end that borrow the
 //! record to write it.
 //!
-//! The focus alone: an interest call here is let through whatever modal layer is in force, which only
-//! `Memory` asks, and no theorem of the ring or of the confirm box is about these functions.
+//! The focus alone: an interest call here is let through whatever modal layer is in force, which
+//! only `Memory` asks, and no theorem of the ring or of the confirm box is about these functions.
 #![tactic(auto)]
 
 ghost use Rattle.std.specs.Prelude.{◌≡◌};

@@ -1,5 +1,5 @@
--- The count of document 01, "The ring": from the field ids in order, the id focused at the start,
--- each call with its arguments and whether it was refused, and from nothing else. Definitions only.
+-- The count of the ring: from the field ids in order, the id focused at the start, each call with
+-- its arguments and whether it was refused, and from nothing else. Definitions only.
 use Rattle.std.specs.Prelude.{ℕ, zero, suc, Bool, false, not, cond, ◌&&◌, List, [], ◌∷◌, eqb}
 use Rattle.std.specs.Prelude.{length, get_or}
 use Rattle.input.specs.declared.Event.{Event}

@@ -1,5 +1,4 @@
--- The premises of demand 3 (../shared/00-demands.md), each a definition beside its words.
--- Definitions only.
+-- The premises of the ring, each a definition beside the words that ask for it. Definitions only.
 use Rattle.std.specs.Prelude.{ℕ, ◌≡◌, Bool, true, false, not, cond, ◌&&◌, ◌||◌, List, [], ◌∷◌, ◌++◌}
 use Rattle.std.specs.Prelude.{map}
 use Rattle.input.specs.declared.Event.{Event}
