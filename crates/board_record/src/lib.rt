@@ -1,5 +1,5 @@
-//! The focus record by value for C and Rust programs. Its forms that borrow it are exported by crate
-//! `focus_c`.
+//! The focus record by value for C and Rust programs. Its forms that borrow it are exported by
+//! crate `focus_c`.
 //!
 //! The focus alone: an interest call here is let through whatever modal layer is in force, which
 //! only `Memory` asks, and no theorem of the ring or of the confirm box is about these functions.
