@@ -7,7 +7,7 @@ mod passes;
 mod program;
 
 use crate::programs::Pair;
-use crate::{BATCH, report, show, stop};
+use crate::{batch, report, show, stop};
 use judge::Why;
 use program::{Careless, Program, program};
 use std::process;
@@ -79,24 +79,12 @@ fn run(count: u64, seed: u64, careless: bool, pair: &Pair) -> Tally {
     let mut tally = Tally::default();
     let mut next = 0;
     while next < count {
-        let batch = batch(seed, next, count, careless);
+        let programs = (next..count).map(|number| program(seed, number, careless));
+        let batch = batch(programs, |program| &program.lines);
         next += batch.len() as u64;
         judge_batch(seed, &batch, pair, &mut tally);
     }
     tally
-}
-
-/// The programs from this number on that make up a batch.
-fn batch(seed: u64, first: u64, count: u64, careless: bool) -> Vec<Program> {
-    let mut size = 0;
-    let programs = (first..count).map(|number| program(seed, number, careless));
-    programs
-        .take_while(|program| {
-            let room = size < BATCH;
-            size += program.lines.iter().map(String::len).sum::<usize>();
-            room
-        })
-        .collect()
 }
 
 fn judge_batch(seed: u64, batch: &[Program], pair: &Pair, tally: &mut Tally) {

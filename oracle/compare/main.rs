@@ -95,7 +95,8 @@ fn compare_lists(count: u64, seed: u64, until: Instant, pair: &Pair) {
     let mut tally = Tally::default();
     let mut next = 0;
     while next < count && (next < LEAST || Instant::now() < until) {
-        let batch = batch(seed, next, count);
+        let lists = (next..count).map(|number| kinds::list(seed, number));
+        let batch = batch(lists, |list| &list.lines);
         compare_batch(seed, &batch, pair, &mut tally);
         next += batch.len() as u64;
     }
@@ -103,14 +104,13 @@ fn compare_lists(count: u64, seed: u64, until: Instant, pair: &Pair) {
     println!("{next} lists from seed {seed}: no difference");
 }
 
-/// The lists from this number on that make up a batch.
-fn batch(seed: u64, first: u64, count: u64) -> Vec<List> {
+/// What is drawn, from the first on, as far as its lines make up a batch.
+fn batch<T>(drawn: impl Iterator<Item = T>, lines: fn(&T) -> &[String]) -> Vec<T> {
     let mut size = 0;
-    let lists = (first..count).map(|number| kinds::list(seed, number));
-    lists
-        .take_while(|list| {
+    drawn
+        .take_while(|one| {
             let room = size < BATCH;
-            size += list.lines.iter().map(String::len).sum::<usize>();
+            size += lines(one).iter().map(String::len).sum::<usize>();
             room
         })
         .collect()

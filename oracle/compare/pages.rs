@@ -143,20 +143,23 @@ pub fn filters(d: &mut Draw) -> Vec<String> {
     lines
 }
 
+const ASKS: [&str; 2] = ["request_focus", "request_focus_next_frame"];
+
+/// Calls on an id that do not ask for it.
+pub const OF_ID: [&str; 7] = [
+    "surrender_focus",
+    "ignore_focus",
+    "has_focus",
+    "had_focus_last_frame",
+    "lost_focus",
+    "gained_focus",
+    "owns_ime_events",
+];
+
 /// A call that a program makes between the calls of a pass, on a field of the page.
 fn aside(d: &mut Draw, page: &Page) -> String {
     let id = page[d.rng.below(page.len())].id;
-    let name = d.rng.pick(&[
-        "request_focus",
-        "request_focus_next_frame",
-        "surrender_focus",
-        "ignore_focus",
-        "has_focus",
-        "had_focus_last_frame",
-        "lost_focus",
-        "gained_focus",
-        "owns_ime_events",
-    ]);
+    let name = d.rng.pick(&[&ASKS[..], &OF_ID].concat());
     match d.rng.below(12) {
         0 => "stop_text_input".to_owned(),
         1 => d.call("move_focus"),

@@ -26,10 +26,12 @@ use Rattle.memory_rules.specs.Calls as Calls
 use Rattle.ring.specs.Lists.{done_by, run, is_refused}
 use Rattle.ring.specs.Count.{is_tab, is_shift_tab}
 use Rattle.ring.specs.Ring.{Rests, Rounds, steps_of, accepted, registered, all_used, AllRegister, are_presses, Turns}
-use Rattle.ring.specs.Instance.{fields, first, start, calls, passes, passing, tab_down, low, after_all, busy_start}
+use Rattle.ring.specs.Instance.{fields, first, start, calls, passes, passing, tab_down, twice, low, after_all, busy_start}
 
 pub met : Turns fields start calls passes
     × (id_or_nothing (nav_of (run start calls)).focused ≡ Some 12)
+    × Rounds fields (run start calls) calls passes
+    × (id_or_nothing (nav_of (run start twice)).focused ≡ Some 11)
     × Rests fields busy_start
     × Rounds fields busy_start calls passes
     × (layer_or_nothing (nav_of busy_start).top_modal_layer ≡ Some low)
@@ -41,6 +43,8 @@ met = (
     start = record { before = new_memory; calls = first; pass = passing (tab_down ∷ []); whole = refl; registers = (refl, refl); left = refl; idle = record { focused = refl; tab_off = refl; no_next = refl; no_give = refl }; no_modal = refl; no_modal_set = refl };
     rounds = record { whole = refl; register = ((refl, refl), ((refl, refl), ((refl, refl), ((refl, refl), ((refl, refl), ((refl, refl), tt)))))); presses = refl };
   },
+  refl,
+  record { whole = refl; register = ((refl, refl), ((refl, refl), ((refl, refl), ((refl, refl), ((refl, refl), ((refl, refl), tt)))))); presses = refl },
   refl,
   record { some = refl; idle = record { focused = refl; tab_off = refl; no_next = refl; no_give = refl }; last_interested = refl },
   record { whole = refl; register = ((refl, refl), ((refl, refl), ((refl, refl), ((refl, refl), ((refl, refl), ((refl, refl), tt)))))); presses = refl },

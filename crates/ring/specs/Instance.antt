@@ -74,6 +74,10 @@ calls =
 abbrev pub passes : List Pass
 passes = map passing ((tab_down ∷ []) ∷ [] ∷ (tab_down ∷ []) ∷ [] ∷ (shift_tab_down ∷ []) ∷ [] ∷ [])
 
+-- the same list once more after it
+abbrev pub twice : List Call
+twice = calls ++ calls
+
 -- ---- a start pass with other calls between its own, which leave a modal layer in force
 abbrev pub low : LayerId
 low = record { order = 0; id = 3 }

@@ -52,11 +52,14 @@ pub fn rounds_join()
 
 /// The premises can be met, so that these are no theorems about nothing: they hold of a page of two
 /// fields and a list of calls with Tab, Tab again and Shift+Tab, refused calls among them, and
-/// after it the second field is focused; from a start pass of the ring's calls alone, and from one
-/// with other calls between them that leave a modal layer in force. There is nothing to run.
+/// after it the second field is focused, and after the same list once more, joined to it, the
+/// first; from a start pass of the ring's calls alone, and from one with other calls between them
+/// that leave a modal layer in force. There is nothing to run.
 pub fn premises_can_be_met()
     ensures { Turns Instance.fields Instance.start Instance.calls Instance.passes
         × (id_or_nothing (nav_of (run Instance.start Instance.calls)).focused ≡ Some 12)
+        × Rounds Instance.fields (run Instance.start Instance.calls) Instance.calls Instance.passes
+        × (id_or_nothing (nav_of (run Instance.start Instance.twice)).focused ≡ Some 11)
         × Rests Instance.fields Instance.busy_start
         × Rounds Instance.fields Instance.busy_start Instance.calls Instance.passes
         × (layer_or_nothing (nav_of Instance.busy_start).top_modal_layer ≡ Some Instance.low)

@@ -2,19 +2,7 @@
 //! free until the box is opened.
 use super::panel::named;
 use super::program::Draft;
-
-/// Calls on an id that ask for nothing.
-const OF_ID: &[&str] = &[
-    "surrender_focus",
-    "surrender_focus",
-    "ignore_focus",
-    "ignore_focus",
-    "has_focus",
-    "had_focus_last_frame",
-    "lost_focus",
-    "gained_focus",
-    "owns_ime_events",
-];
+use crate::pages::OF_ID;
 
 const OF_LAYER: &[&str] = &[
     "move_to_top",
@@ -64,7 +52,7 @@ impl Draft {
         match self.d.rng.below(16) {
             0..3 => self.request_above(),
             3 | 4 => self.moved(),
-            5..8 => format!("{} {field}", self.d.rng.pick(OF_ID)),
+            5..8 => format!("{} {field}", self.d.rng.pick(&OF_ID)),
             8 => self.filter(field),
             9..11 => {
                 let call = self.d.rng.pick(OF_LAYER);
