@@ -23,45 +23,57 @@ fn widget(id: u64) -> WidgetRect {
     }
 }
 
-// `move_to_top` is a parameter of egui's own `insert`.
-fn insert(widgets: WidgetRects, id: u64, move_to_top: bool) -> Result<WidgetRects, Refusal> {
-    widgets.insert(LAYER, widget(id), move_to_top)
+// `move_to_top` is a parameter of egui's own `insert`. A record of 43 KB is copied wherever it is
+// handed on, so what the insert answers is put where the record came from.
+fn insert(widgets: &mut WidgetRects, id: u64, move_to_top: bool) -> Result<(), Refusal> {
+    *widgets = widgets.insert(LAYER, widget(id), move_to_top)?;
+    Ok(())
 }
 
 // Inserts the ids from 1 to 256.
-fn filled(widgets: WidgetRects) -> Result<WidgetRects, Refusal> {
-    (1..=WIDGETS as u64).try_fold(widgets, |held, id| insert(held, id, false))
+fn fill(widgets: &mut WidgetRects) -> Result<(), Refusal> {
+    for id in 1..=WIDGETS as u64 {
+        insert(widgets, id, false)?;
+    }
+    Ok(())
 }
 
-// What an insert into `before` answers, and how many widgets the layer then lists.
+// What an insert answered, and how many widgets the layer then lists.
 fn tell(
     rt: &impl Print,
     text: &str,
-    before: WidgetRects,
-    inserted: Result<WidgetRects, Refusal>,
+    widgets: &WidgetRects,
+    inserted: Result<(), Refusal>,
 ) -> io::Result<()> {
-    let Ok(list) = inserted.unwrap_or(before).focusable_widgets_in_layer(LAYER) else {
+    let Ok(list) = widgets.focusable_widgets_in_layer(LAYER) else {
         return Ok(());
     };
     let last = last(&list.ids, list.count).unwrap_or(0);
-    say_list(rt, text, inserted.map(|_| ()), list.count, "listed", last)
+    say_list(rt, text, inserted, list.count, "listed", last)
+}
+
+// The same of an insert into a copy.
+fn tell_one(
+    rt: &impl Print,
+    text: &str,
+    before: &WidgetRects,
+    id: u64,
+    move_to_top: bool,
+) -> io::Result<()> {
+    let mut widgets = *before;
+    let inserted = insert(&mut widgets, id, move_to_top);
+    tell(rt, text, &widgets, inserted)
 }
 
 pub fn registry(rt: &impl Print) -> io::Result<()> {
-    let none = WidgetRects::new();
-    tell(rt, "the 256th widget", none, filled(none))?;
-    let Ok(full) = filled(none) else {
-        return Ok(());
-    };
-    tell(rt, "a 257th", full, insert(full, 257, false))?;
-    tell(rt, "the first once more", full, insert(full, 1, false))?;
-    tell(rt, "the first to the top", full, insert(full, 1, true))?;
-    let cleared = full.clear();
-    tell(
-        rt,
-        "after clear, a new one",
-        cleared,
-        insert(cleared, 257, false),
-    )?;
-    tell(rt, "and 256 of them", cleared, filled(cleared))
+    let mut widgets = WidgetRects::new();
+    let filled = fill(&mut widgets);
+    tell(rt, "the 256th widget", &widgets, filled)?;
+    tell_one(rt, "a 257th", &widgets, 257, false)?;
+    tell_one(rt, "the first once more", &widgets, 1, false)?;
+    tell_one(rt, "the first to the top", &widgets, 1, true)?;
+    widgets = widgets.clear();
+    tell_one(rt, "after clear, a new one", &widgets, 257, false)?;
+    let filled = fill(&mut widgets);
+    tell(rt, "and 256 of them", &widgets, filled)
 }

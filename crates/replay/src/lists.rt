@@ -1,4 +1,5 @@
 // `begin` and `end`, which carry a list.
+use crate::forms::Put;
 use crate::line::Line;
 use focus::{Events, Used};
 use input::Event;
@@ -38,7 +39,11 @@ pub fn begin(line: &mut Line, m: &mut Memory) -> Option<()> {
             *row = numbers(event);
         }
     }
-    line.change(m, |m| memory::begin_pass(m, events))
+    line.words.end()?;
+    memory::begin_pass(*m, events)
+        .map(|after| *m = after)
+        .put(line.answer);
+    Some(())
 }
 
 // `end N (ID X0 Y0 X1 Y1)..`: likewise.
@@ -58,5 +63,9 @@ pub fn end(line: &mut Line, m: &mut Memory) -> Option<()> {
             *row = rect.into();
         }
     }
-    line.change(m, |m| memory::end_pass(m, used))
+    line.words.end()?;
+    memory::end_pass(*m, used)
+        .map(|after| *m = after)
+        .put(line.answer);
+    Some(())
 }

@@ -6,6 +6,9 @@ use input::{Event, EventFilter};
 use layers::LayerId;
 use widget_rect::WidgetRect;
 
+// The longest name of a call, `focusable_widgets_in_layer`, has so many bytes.
+const LONGEST_NAME: usize = 26;
+
 #[derive(Clone, Copy)]
 pub struct Words<'a> {
     line: &'a [u8],
@@ -17,10 +20,12 @@ impl<'a> Words<'a> {
         Words { line, at: 0 }
     }
 
-    // The line's first word.
+    // The line's first word; of one that is longer than every name only the front, which is no
+    // name either.
     pub fn name(&mut self) -> &'a [u8] {
-        self.at = text::find(self.line, 0, b' ');
-        &self.line[..self.at]
+        let front = &self.line[..self.line.len().min(LONGEST_NAME + 1)];
+        self.at = text::find(front, 0, b' ');
+        &front[..self.at]
     }
 
     // The end of the line.
@@ -28,11 +33,12 @@ impl<'a> Words<'a> {
         (self.at == self.line.len()).then_some(())
     }
 
-    // A space and a word.
-    fn word(&mut self) -> Option<&'a [u8]> {
-        let from = text::skip(self.line, self.at, b' ')?;
-        self.at = text::find(self.line, from, b' ');
-        self.line.get(from..self.at)
+    // A space and a letter. What follows it is the next word's, or the line's end.
+    fn letter(&mut self) -> Option<u8> {
+        let at = text::skip(self.line, self.at, b' ')?;
+        let letter = *self.line.get(at)?;
+        self.at = at + 1;
+        Some(letter)
     }
 
     pub fn number(&mut self) -> Option<u64> {
@@ -121,12 +127,12 @@ impl<'a> Words<'a> {
 
     // A letter for the kind of event, and its words.
     pub fn event(&mut self) -> Option<Event> {
-        match self.word()? {
-            b"k" => self.key(),
-            b"a" => Some(Event::AccessKitFocus(self.number()?)),
-            b"p" => Some(Event::Pointer(self.float()?, self.float()?)),
-            b"z" => Some(Event::Zoom(self.float()?)),
-            b"o" => Some(Event::Other),
+        match self.letter()? {
+            b'k' => self.key(),
+            b'a' => Some(Event::AccessKitFocus(self.number()?)),
+            b'p' => Some(Event::Pointer(self.float()?, self.float()?)),
+            b'z' => Some(Event::Zoom(self.float()?)),
+            b'o' => Some(Event::Other),
             _ => None,
         }
     }
