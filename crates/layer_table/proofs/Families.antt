@@ -1,5 +1,5 @@
 -- Laws of the search for a child, and of the refusal of a pair that does not fit the pairs there are. Assumes nothing.
-use mathlib.Core.Path.{◌≡◌, refl, sym, ◌∙◌}
+use mathlib.Core.Path.{◌≡◌, sym, ◌∙◌}
 use mathlib.Core.Bool.{Bool, true, false}
 use mathlib.Core.List.{List}
 use Prim.Native.Nat.{ℕ, ◌+◌, ◌/◌, min, ◌<◌, ◌≤◌}

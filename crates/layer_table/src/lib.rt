@@ -30,19 +30,37 @@ pub fn check_room(rows: LayerRows, n: usize) -> Result<(), Refusal>
     refusal::check(n <= rows.room(), Refusal::Full)
 }
 
-// Changes the row of a layer, or makes it where it has none. How many rows are then held.
+// Changes the row of a layer, which is row k, or makes it there where it has none. How many rows
+// are then held.
+fn mark_at<F: FnOnce(Row) -> Row>(
+    rows: &mut [u64],
+    count: usize,
+    k: usize,
+    layer: LayerId,
+    change: F,
+) -> usize
+    requires callable { F.IsAlwaysCallable change }
+    requires place { k ≡ spot_in (held_rows count rows.old) layer }
+    requires room { k < room_in rows.old }
+    ensures { (f : Row → Row) → ((r s : Row) → F.post change r s → s ≡ f r) →
+        (result ≡ length (marked f (held_rows count rows.old) layer)) × (rows.new ≡ rows_on rows.old (marked f (held_rows count rows.old) layer)) }
+{
+    let table = LayerRows { count, words: rows };
+    let n = with_row(table.held(), k);
+    let r = change(table.row_at(k, layer));
+    layer_rows::put_row(rows, k, r);
+    n
+}
+
+// The same of a layer whose place is not known yet.
 fn mark<F: FnOnce(Row) -> Row>(rows: &mut [u64], count: usize, layer: LayerId, change: F) -> usize
     requires callable { F.IsAlwaysCallable change }
     requires room { spot_in (held_rows count rows.old) layer < room_in rows.old }
     ensures { (f : Row → Row) → ((r s : Row) → F.post change r s → s ≡ f r) →
         (result ≡ length (marked f (held_rows count rows.old) layer)) × (rows.new ≡ rows_on rows.old (marked f (held_rows count rows.old) layer)) }
 {
-    let table = LayerRows { count, words: rows };
-    let k = table.spot(layer);
-    let n = with_row(table.held(), k);
-    let r = change(table.row_at(k, layer));
-    layer_rows::put_row(rows, k, r);
-    n
+    let k = LayerRows { count, words: rows }.spot(layer);
+    mark_at(rows, count, k, layer, change)
 }
 
 // ---- `move_to_top`
@@ -57,12 +75,16 @@ fn raised(r: Row) -> Row
     }
 }
 
+// Answers the place of the layer's row, so that it is looked for once.
 #[tactic(auto, using(crate::proofs::Changes::top_number))]
-fn check_top(rows: LayerRows, layer: LayerId) -> Result<(), Refusal>
-    ensures { number_in result ≡ top_refusal (room_in rows.entry.words.now) (lent rows.entry) layer }
+fn check_top(rows: LayerRows, layer: LayerId) -> Result<usize, Refusal>
+    ensures refusal { number_in result ≡ top_refusal (room_in rows.entry.words.now) (lent rows.entry) layer }
+    ensures place { IfOk result (λ k. k ≡ spot_in (lent rows.entry) layer) }
 {
-    let n = with_row(rows.held(), rows.spot(layer));
-    refusal::both(layer.check(), check_room(rows, n))
+    let k = rows.spot(layer);
+    let n = with_row(rows.held(), k);
+    refusal::both(layer.check(), check_room(rows, n))?;
+    Ok(k)
 }
 
 // How many rows are then held.
@@ -71,8 +93,8 @@ pub fn move_to_top(rows: &mut [u64], count: usize, layer: LayerId) -> Result<usi
     ensures count { IfOk result (λ n. n ≡ length (to_top (held_rows count rows.old) layer)) }
     ensures rows { rows.new ≡ kept (top_refusal (room_in rows.old) (held_rows count rows.old) layer) rows.old (rows_on rows.old (to_top (held_rows count rows.old) layer)) }
 {
-    check_top(LayerRows { count, words: rows }, layer)?;
-    Ok(mark(rows, count, layer, raised))
+    let k = check_top(LayerRows { count, words: rows }, layer)?;
+    Ok(mark_at(rows, count, k, layer, raised))
 }
 
 // ---- `set_sublayer`
