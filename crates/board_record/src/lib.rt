@@ -6,7 +6,6 @@
 #![tactic(auto)]
 
 ghost use Rattle.std.specs.Prelude.{◌≡◌};
-ghost use Rattle.std.specs.Result.{result_unwrap_or};
 ghost use Rattle.refusal.specs.Refusal.{number_in};
 ghost use Rattle.focus.specs.Focus.{begun_of, interested_of, ended_of};
 
@@ -21,13 +20,13 @@ pub struct Done {
     pub refusal: u64,
 }
 
-// What a call on this record answered; where it is refused the record is as it was.
-fn after(f: Focus, answer: Result<Focus, Refusal>) -> Done
-    ensures { (result.focus ≡ result_unwrap_or answer f) × (result.refusal ≡ number_in answer) }
+// What a call by value left and answered; where it is refused the record is as it was.
+fn left(focus: Focus, answer: Result<(), Refusal>) -> Done
+    ensures { (result.focus ≡ focus) × (result.refusal ≡ number_in answer) }
 {
     Done {
+        focus,
         refusal: refusal::number(&answer),
-        focus: answer.unwrap_or(f),
     }
 }
 
@@ -36,7 +35,8 @@ pub extern "C" fn jaturemi_begun(f: Focus, e: Events) -> Done
     ensures focus { result.focus ≡ (begun_of f e).focus }
     ensures refusal { result.refusal ≡ (begun_of f e).refusal }
 {
-    after(f, focus::begun(f, e))
+    let (focus, answer) = focus::after_begin(f, e);
+    left(focus, answer)
 }
 
 #[unsafe(no_mangle)]
@@ -44,7 +44,8 @@ pub extern "C" fn jaturemi_interested(f: Focus, id: u64) -> Done
     ensures focus { result.focus ≡ (interested_of f id).focus }
     ensures refusal { result.refusal ≡ (interested_of f id).refusal }
 {
-    after(f, focus::interested(f, id))
+    let (focus, answer) = focus::after_interest(f, id);
+    left(focus, answer)
 }
 
 #[unsafe(no_mangle)]
@@ -52,5 +53,6 @@ pub extern "C" fn jaturemi_ended(f: Focus, u: Used) -> Done
     ensures focus { result.focus ≡ (ended_of f u).focus }
     ensures refusal { result.refusal ≡ (ended_of f u).refusal }
 {
-    after(f, focus::ended(f, u))
+    let (focus, answer) = focus::after_end(f, u);
+    left(focus, answer)
 }

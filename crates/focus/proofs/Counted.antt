@@ -1,10 +1,10 @@
 -- The events or used entries of an array with a count are those of the part that is lent; a count past its end is too many. Assumes nothing.
 use mathlib.Core.Path.{◌≡◌, refl, ap}
 use mathlib.Core.List.{List, ◌∷◌}
-use mathlib.Core.Bool.{true}
+use mathlib.Core.Bool.{true, false}
 use Prim.Native.Nat.{ℕ, zero, suc, ◌+◌, ◌*◌, ◌/◌, ◌%◌, ◌≤◌, ◌<◌}
 use native.Mathlib.Omega.{arith}
-use lib.Dec.{eqb}
+use lib.Dec.{eqb, ltb}
 use lib.ListN.{length, get_or, take}
 use lib.Seq.{get_or-take, length-take-le}
 use borrow.Author.Tests.{eq-eqb, lt-ltb, le-ltb}
@@ -47,6 +47,10 @@ module _ (f : Focus) (e : Events) where
   unfolding begun_of begin_of begin_refusal
   too_many h = rw (count_length e.words 0 e.count, lt-ltb 64 e.count h)
 
+  pub too_many_left : ltb 64 e.count ≡ true → f ≡ (begun_of f e).focus
+  unfolding begun_of begin_of begin_refusal
+  too_many_left h = rw (count_length e.words 0 e.count, h)
+
 pub lent_events : (e : Events) → length e.words ≡ 256 → e.count ≤ 64 → events_in (take (4 * e.count) e.words) ≡ events_of e
 lent_events e l h = lent e.words e.count (omega arith)
 
@@ -54,6 +58,15 @@ module _ (f : Focus) (u : Used) where
   pub too_many_used : 256 < u.count → bad_list ≡ (ended_of f u).refusal
   unfolding ended_of
   too_many_used h = rw (lt-ltb 256 u.count h)
+
+  pub too_many_used_left : ltb 256 u.count ≡ true → f ≡ (ended_of f u).focus
+  unfolding ended_of
+  too_many_used_left h = rw h
+
+  -- as many as `lent` lends
+  pub lent_used : ltb 256 u.count ≡ false → ended_with f (used_of u) ≡ ended_of f u
+  unfolding ended_of
+  lent_used h = rw h
 
   pub few_used : u.count ≤ 256 → ended_with f (used_of u) ≡ ended_of f u
   unfolding ended_of

@@ -1,7 +1,7 @@
 // `Focus` of memory/mod.rs as a record by value over the core in place (crates `focus_calls`, `focus_pass`, `focus_end`), and thin forms of begin, interest and end that borrow it to write it.
 #![tactic(auto)]
 
-ghost use Rattle.std.specs.Prelude.{◌≡◌, eqb, IfOk, cond, ltb};
+ghost use Rattle.std.specs.Prelude.{◌≡◌, eqb, IfOk, OnOk, cond, ltb};
 ghost use Rattle.refusal.specs.Refusal.{none, bad_list, number_in, answer, id_refusal};
 ghost use Rattle.refusal.specs.Limits.{events as most_events, used as most_used};
 ghost use Rattle.focus_rules.specs.Rules.{id_or_nothing, layer_or_nothing};
@@ -69,71 +69,130 @@ impl Used {
     }
 }
 
-// ---- begin, interest and end by value
+// ---- begin, interest and end in place. The first and the last stay calls of their own: a caller
+// that had their early returns inside would copy the record of 6 KB once more.
 
 #[tactic(auto, unfolding(crate::specs::Focus::begun_of), using(crate::proofs::Counted::too_many, crate::proofs::Counted::lent_events))]
-pub fn begun(mut f: Focus, e: Events) -> Result<Focus, Refusal>
-    ensures refusal { number_in result ≡ (begun_of f e).refusal }
-    ensures focus { IfOk result (λ g. g ≡ (begun_of f e).focus) }
+#[inline(never)]
+fn begin(f: &mut Focus, e: &Events) -> Result<(), Refusal>
+    ensures refusal { number_in result ≡ (begun_of f.old e.now).refusal }
+    ensures focus { f.new ≡ (begun_of f.old e.now).focus }
 {
     let words = e.lent()?;
     f.nav = focus_pass::begin_pass(f.nav, &f.ids, &f.rects, f.count, words)?;
     f.slot = 0;
-    Ok(f)
+    Ok(())
 }
 
 #[tactic(auto, unfolding(crate::specs::Focus::interested_of))]
-pub fn interested(mut f: Focus, id: u64) -> Result<Focus, Refusal>
-    ensures refusal { number_in result ≡ (interested_of f id).refusal }
-    ensures focus { IfOk result (λ g. g ≡ (interested_of f id).focus) }
+fn interest(f: &mut Focus, id: u64) -> Result<(), Refusal>
+    ensures refusal { number_in result ≡ (interested_of f.old id).refusal }
+    ensures focus { f.new ≡ (interested_of f.old id).focus }
 {
     let r = focus_pass::interested_in_focus(f.nav, &mut f.ids, &mut f.rects, f.count, f.slot, id)?;
-    Ok(Focus {
-        nav: r.nav,
-        count: r.count,
-        slot: r.slot,
-        ..f
-    })
+    f.nav = r.nav;
+    f.count = r.count;
+    f.slot = r.slot;
+    Ok(())
 }
 
 #[tactic(auto, using(crate::proofs::Counted::too_many_used, crate::proofs::Counted::few_used))]
-pub fn ended(mut f: Focus, u: Used) -> Result<Focus, Refusal>
-    ensures refusal { number_in result ≡ (ended_of f u).refusal }
-    ensures focus { IfOk result (λ g. g ≡ (ended_of f u).focus) }
+#[inline(never)]
+fn end(f: &mut Focus, u: &Used) -> Result<(), Refusal>
+    ensures refusal { number_in result ≡ (ended_of f.old u.now).refusal }
+    ensures focus { f.new ≡ (ended_of f.old u.now).focus }
 {
     let used = u.lent()?;
     let end = focus_end::end_pass(f.nav, &mut f.ids, &mut f.rects, f.count, used, USED)?;
-    Ok(Focus {
-        nav: end.nav,
-        count: end.count,
-        ..f
-    })
+    f.nav = end.nav;
+    f.count = end.count;
+    Ok(())
 }
 
-// ---- their thin forms
+// ---- the same by value: the record goes in and comes back, as it was where the call is refused,
+// and beside it what the call answered. Inside a Result it would be copied once or twice more, so
+// C and the forms that borrow the record go through these.
+
+pub fn after_begin(mut f: Focus, e: Events) -> (Focus, Result<(), Refusal>)
+    ensures focus { result.0 ≡ (begun_of f e).focus }
+    ensures refusal { number_in result.1 ≡ (begun_of f e).refusal }
+{
+    let answer = begin(&mut f, &e);
+    (f, answer)
+}
+
+pub fn after_interest(mut f: Focus, id: u64) -> (Focus, Result<(), Refusal>)
+    ensures focus { result.0 ≡ (interested_of f id).focus }
+    ensures refusal { number_in result.1 ≡ (interested_of f id).refusal }
+{
+    let answer = interest(&mut f, id);
+    (f, answer)
+}
+
+pub fn after_end(mut f: Focus, u: Used) -> (Focus, Result<(), Refusal>)
+    ensures focus { result.0 ≡ (ended_of f u).focus }
+    ensures refusal { number_in result.1 ≡ (ended_of f u).refusal }
+{
+    let answer = end(&mut f, &u);
+    (f, answer)
+}
+
+// ---- the same where only a call that is taken has a record
+
+pub fn begun(f: Focus, e: Events) -> Result<Focus, Refusal>
+    ensures refusal { number_in result ≡ (begun_of f e).refusal }
+    ensures focus { IfOk result (λ g. g ≡ (begun_of f e).focus) }
+{
+    let (focus, answer) = after_begin(f, e);
+    answer?;
+    Ok(focus)
+}
+
+pub fn interested(f: Focus, id: u64) -> Result<Focus, Refusal>
+    ensures refusal { number_in result ≡ (interested_of f id).refusal }
+    ensures focus { IfOk result (λ g. g ≡ (interested_of f id).focus) }
+{
+    let (focus, answer) = after_interest(f, id);
+    answer?;
+    Ok(focus)
+}
+
+pub fn ended(f: Focus, u: Used) -> Result<Focus, Refusal>
+    ensures refusal { number_in result ≡ (ended_of f u).refusal }
+    ensures focus { IfOk result (λ g. g ≡ (ended_of f u).focus) }
+{
+    let (focus, answer) = after_end(f, u);
+    answer?;
+    Ok(focus)
+}
+
+// ---- their thin forms, each over the function by value
 
 pub fn focus_begin_pass(f: &mut Focus, e: Events) -> Result<(), Refusal>
     ensures refusal { number_in result ≡ (begun_of f.old e).refusal }
     ensures focus { f.new ≡ (begun_of f.old e).focus }
 {
-    *f = begun(*f, e)?;
-    Ok(())
+    let (after, answer) = after_begin(*f, e);
+    *f = after;
+    answer
 }
 
 pub fn focus_interested_in_focus(f: &mut Focus, id: u64) -> Result<(), Refusal>
     ensures refusal { number_in result ≡ (interested_of f.old id).refusal }
     ensures focus { f.new ≡ (interested_of f.old id).focus }
 {
-    *f = interested(*f, id)?;
-    Ok(())
+    let (after, answer) = after_interest(*f, id);
+    *f = after;
+    answer
 }
 
 pub fn focus_end_pass(f: &mut Focus, u: Used) -> Result<(), Refusal>
     ensures refusal { number_in result ≡ (ended_of f.old u).refusal }
     ensures focus { f.new ≡ (ended_of f.old u).focus }
 {
-    *f = ended(*f, u)?;
-    Ok(())
+    let (after, answer) = after_end(*f, u);
+    *f = after;
+    answer
 }
 
 // ---- the other methods

@@ -1,6 +1,6 @@
 -- Laws of the entries that tables hold, of a list of entries on the first places of tables, and of an id in a list. Assumes nothing.
 use mathlib.Core.Path.{◌≡◌, refl, sym, ap, ◌∙◌}
-use mathlib.Core.Bool.{Bool, true, false, cond, or-true, ◌||◌}
+use mathlib.Core.Bool.{Bool, true, false, true≢false, cond, or-true, ◌||◌}
 use mathlib.Core.List.{List, [], ◌∷◌, ◌++◌, append-nil}
 use Prim.Native.Nat.{ℕ, zero, suc, ◌+◌, ◌*◌, ◌/◌, min, ◌<◌, ◌≤◌}
 use native.Mathlib.Numerals.{add-one}
@@ -179,6 +179,15 @@ without_append (e ∷ l) m id = go (eqb e.id id) (without_append l m id)
     go : (t : Bool) → without (l ++ m) id ≡ without l id ++ without m id → cond t (without (l ++ m) id) (e ∷ without (l ++ m) id) ≡ cond t (without l id) (e ∷ without l id) ++ without m id
     go true r = r
     go false r = ap (λ (k : List Candidate). e ∷ k) r
+
+pub without_none : (l : List Candidate) (id : ℕ) → has_id l id ≡ false → without l id ≡ l
+unfolding has_id without
+without_none [] id h = refl
+without_none (e ∷ l) id h = go (eqb e.id id) h (λ k. without_none l id k)
+  where
+    go : (t : Bool) → (t || has_id l id) ≡ false → (has_id l id ≡ false → without l id ≡ l) → cond t (without l id) (e ∷ without l id) ≡ e ∷ l
+    go true h rest = absurd (true≢false h)
+    go false h rest = ap (λ (k : List Candidate). e ∷ k) (rest h)
 
 pub without_length : (l : List Candidate) (id : ℕ) → length (without l id) ≤ length l
 unfolding without

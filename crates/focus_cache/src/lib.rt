@@ -100,6 +100,10 @@ pub fn remove(ids: &mut [u64], rects: &mut [f32], count: usize, id: u64) -> usiz
     ensures { (result ≡ length (without (held_in count ids.old rects.old) id)) × (cache_in ids.new rects.new ≡ cache_on (cache_in ids.old rects.old) (without (held_in count ids.old rects.old) id)) }
 {
     let n = held(ids, rects, count);
+    // Nothing moves where the id has no entry.
+    if !contains(ids, rects, count, id) {
+        return n;
+    }
     let mut kept = 0;
     for i in 0..n {
         let here = ids[i];

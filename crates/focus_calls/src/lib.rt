@@ -1,4 +1,6 @@
 // The focus's calls outside of a pass's begin, interest and end, most of them `Memory`'s in memory/mod.rs, on the fields by value. Id 0 is none.
+// A call that sets one field writes it in a copy of all: by a struct update each field is copied on
+// its own, which took an export half as long again.
 #![tactic(auto)]
 
 ghost use Rattle.std.specs.Prelude.{◌≡◌, eqb, IfOk};
@@ -55,10 +57,9 @@ pub fn set_modal_layer(nav: Nav, layer: LayerId) -> Result<Nav, Refusal>
     ensures nav { IfOk result (λ n. n ≡ with_modals nav nav.top_modal_layer layer) }
 {
     layer.check()?;
-    Ok(Nav {
-        top_modal_layer_current_frame: layer,
-        ..nav
-    })
+    let mut next = nav;
+    next.top_modal_layer_current_frame = layer;
+    Ok(next)
 }
 
 pub fn request_focus(nav: Nav, id: u64) -> Result<Nav, Refusal>
@@ -74,10 +75,9 @@ pub fn request_focus_next_frame(nav: Nav, id: u64) -> Result<Nav, Refusal>
     ensures nav { IfOk result (λ n. n ≡ with_next nav id) }
 {
     refusal::check_id(id)?;
-    Ok(Nav {
-        id_next_frame: id,
-        ..nav
-    })
+    let mut next = nav;
+    next.id_next_frame = id;
+    Ok(next)
 }
 
 // Lets the focus go, if it is on this id.
@@ -118,8 +118,7 @@ pub fn move_focus(nav: Nav, direction: u64) -> Result<Nav, Refusal>
     ensures nav { IfOk result (λ n. n ≡ with_direction nav direction) }
 {
     refusal::check_code(direction, LAST_DIRECTION)?;
-    Ok(Nav {
-        focus_direction: direction,
-        ..nav
-    })
+    let mut next = nav;
+    next.focus_direction = direction;
+    Ok(next)
 }

@@ -1,6 +1,6 @@
 -- The events that numbers are, one at a time, and each turn of the loop over them. Assumes nothing.
 use mathlib.Core.Path.{◌≡◌, refl, sym, ap, ◌∙◌}
-use mathlib.Core.Bool.{Bool, true, false, cond, ◌||◌, true≢false}
+use mathlib.Core.Bool.{Bool, true, false, cond}
 use mathlib.Core.List.{List, [], ◌∷◌, ◌++◌, append-nil}
 use Prim.Native.Nat.{ℕ, zero, suc, ◌+◌, ◌*◌, ◌/◌, ◌%◌, min, ◌<◌}
 use native.Mathlib.Omega.{arith}
@@ -8,10 +8,7 @@ use lib.Dec.{eqb}
 use lib.ListN.{length, get_or, take, drop, length-append, length-drop, drop_of_length-le}
 use lib.Seq.{get_or-take, get_or-drop, take_all, take-append_seam, drop-append_seam}
 use borrow.Author.Tests.{eqb-true, eqb-false}
-use Rattle.std.specs.Prelude.{Result, is_err}
-use Rattle.refusal.specs.declared.Refusal.{Refusal}
-use Rattle.refusal.specs.Refusal.{none, number_in, lowest}
-use Rattle.refusal.proofs.Laws.{none_right, no_error}
+use Rattle.refusal.specs.Refusal.{lowest}
 use Rattle.input.specs.declared.Event.{Event}
 use Rattle.input.specs.declared.EventFilter.{EventFilter}
 use Rattle.input.specs.Event.{event_refusal}
@@ -71,8 +68,8 @@ cut row (y ∷ ys) h =
     let e : 4 ≡ length row = omega (arith, h, length-append row (y ∷ ys)) in
     rw e (take-append_seam row (y ∷ ys), drop-append_seam row (y ∷ ys))
 
--- ---- the loop: what the events that are left make of what was heard before them; n is the lowest refusal so far
-module _ (filter : EventFilter) (words row rest : List ℕ) (w : words ≡ row ++ rest) (n : length row ≡ min 4 (length words)) (h : 0 < length words) (e : Event) (p : e ≡ event_at row 0) where
+-- ---- the loop: what the events that are left make of what was heard before them
+module _ (words row rest : List ℕ) (w : words ≡ row ++ rest) (n : length row ≡ min 4 (length words)) (h : 0 < length words) (e : Event) (p : e ≡ event_at row 0) where
   first : events_in words ≡ e ∷ events_in rest
   first = let (a, b) = cut row rest (rw w at n) in rw (w, p) (rw (a, b) at (first_event (row ++ rest) (rw w at h)))
 
@@ -80,15 +77,9 @@ module _ (filter : EventFilter) (words row rest : List ℕ) (w : words ≡ row +
   unfolding worst_of
   worst_more k c m q r = rw (first, r, q)
 
-  -- no event so far is refused, and then not this one
-  pub worst_passed : (n : ℕ) (so_far t : Bool) (c : Result Unit Refusal) → (so_far ≡ false → worst_of none (events_in words) ≡ n) → number_in c ≡ event_refusal e → t ≡ is_err c → so_far || t ≡ false → worst_of none (events_in rest) ≡ n
-  worst_passed n false false c i q k f = worst_more none (number_in c) none q (none_right none (number_in c) (no_error c (sym k))) ∙ i refl
-  worst_passed n false true c i q k f = absurd (true≢false f)
-  worst_passed n true t c i q k f = absurd (true≢false f)
-
-  pub heard_more : (so_far next : Heard) → next ≡ heard_of filter so_far e → heard_all filter next (events_in rest) ≡ heard_all filter so_far (events_in words)
+  pub heard_more : (filter : EventFilter) (so_far next : Heard) → next ≡ heard_of filter so_far e → heard_all filter next (events_in rest) ≡ heard_all filter so_far (events_in words)
   unfolding heard_all
-  heard_more so_far next r = rw (first, r)
+  heard_more filter so_far next r = rw (first, r)
 
 module _ (words : List ℕ) (h : length words ≡ 0) where
   no_event : events_in words ≡ []

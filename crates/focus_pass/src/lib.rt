@@ -7,7 +7,7 @@
 #![tactic(auto)]
 
 ghost use Rattle.std.specs.Prelude.{◌≡◌, IfOk};
-ghost use Rattle.refusal.specs.Refusal.{number_in, none, kept};
+ghost use Rattle.refusal.specs.Refusal.{number_of, number_in, none, lowest, kept};
 ghost use Rattle.focus_rules.specs.Rules.{nothing_heard};
 ghost use Rattle.focus_cache.specs.Cache.{room_in, held_in, enlisted, without, cache_in, cache_on};
 ghost use Rattle.focus_pass.specs.Events.{event_of, event_at, events_from, count_in, events_in};
@@ -19,6 +19,7 @@ use refusal::{EVENTS, Refusal};
 
 // The fields after an interest call, how many entries are held, and the place where the next call looks first.
 #[derive(Clone, Copy)]
+#[repr(C)]
 pub struct Interested {
     pub nav: Nav,
     pub count: usize,
@@ -67,19 +68,37 @@ fn event(row: &[u64]) -> Event
     )
 }
 
-// The lowest refusal of any event.
-#[tactic(auto, using(crate::proofs::Events::worst_more, crate::proofs::Events::worst_all))]
-fn check_events(words: &[u64]) -> Result<(), Refusal>
-    ensures { number_in result ≡ worst_of none (events_in words.now) }
+// A refusal, or a check's where that one is lower.
+#[tactic(auto, using(refusal::proofs::Laws::none_right, refusal::proofs::Laws::first_lower, refusal::proofs::Laws::second_lower))]
+fn joined(r: Refusal, checked: Result<(), Refusal>) -> Refusal
+    ensures { number_of result ≡ lowest (number_of r) (number_in checked) }
 {
-    let mut checked = Ok(());
-    for row in words.chunks(4) {
-        checked = refusal::both(checked, event(row).check());
+    match checked {
+        Err(s) if u64::from(s) < u64::from(r) => s,
+        _ => r,
     }
-    checked
 }
 
-// What the events come to, or their lowest refusal, which is looked for only where one is refused: a lowest refusal so far would double the time of the loop.
+// The lowest of a refusal and those of the events after it. Seldom run: were it put into the loop
+// below, that would be slower.
+#[inline(never)]
+fn lowest_from(first: Refusal, words: &[u64]) -> Refusal
+    ensures { number_of result ≡ worst_of (number_of first) (events_in words.now) }
+{
+    let mut refused = first;
+    let (whole, rest) = words.as_chunks::<4>();
+    for &[kind, code, flags, modifiers] in whole {
+        let event = event_of(kind, code, code, flags, modifiers);
+        refused = joined(refused, event.check());
+    }
+    if rest.is_empty() {
+        return refused;
+    }
+    joined(refused, event(rest).check())
+}
+
+// What the events come to, or their lowest refusal. Events are heard up to the first one that is
+// refused; those after it are asked for their refusals alone, so that the loop joins none.
 fn listen_to(words: &[u64], filter: EventFilter) -> Result<Heard, Refusal>
     ensures refusal { number_in result ≡ worst_of none (events_in words.now) }
     ensures heard { IfOk result (λ h. h ≡ heard_all filter nothing_heard (events_in words.now)) }
@@ -89,21 +108,19 @@ fn listen_to(words: &[u64], filter: EventFilter) -> Result<Heard, Refusal>
         direction: NO_DIRECTION,
         asked: 0,
     };
-    let mut refused = false;
     // The loop goes over whole events alone, so that it asks for no length.
     let (whole, rest) = words.as_chunks::<4>();
-    for &[kind, code, flags, modifiers] in whole {
+    for (i, &[kind, code, flags, modifiers]) in whole.iter().enumerate() {
         let event = event_of(kind, code, code, flags, modifiers);
-        refused |= event.check().is_err();
+        if let Err(r) = event.check() {
+            return Err(lowest_from(r, &words[4 * (i + 1)..]));
+        }
         heard = navigation::heard(heard, filter, event);
     }
     if !rest.is_empty() {
         let event = event(rest);
-        refused |= event.check().is_err();
+        event.check()?;
         heard = navigation::heard(heard, filter, event);
-    }
-    if refused {
-        check_events(words)?;
     }
     Ok(heard)
 }

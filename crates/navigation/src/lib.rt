@@ -59,7 +59,10 @@ pub fn focused_widget(nav: Nav) -> Option<FocusWidget>
 pub fn event_filter(nav: Nav) -> EventFilter
     ensures { result ≡ filter_of nav }
 {
-    focused_widget(nav).map_or(EventFilter::new(), |w| w.filter)
+    let Some(widget) = focused_widget(nav) else {
+        return EventFilter::new();
+    };
+    widget.filter
 }
 
 // Focuses an id, with the default filter; 0 focuses none.

@@ -71,7 +71,9 @@ impl UsedEntries<'_> {
         ensures { number_in result ≡ used_refusal limit (lent self.entry) }
     {
         refusal::check(self.ids.len() <= limit, Refusal::BadList)?;
+        // The entries first: where there is none, the cells of `repeats` are not made either.
+        let entries = self.check_entries();
         let distinct = refusal::check(!repeats(self.ids), Refusal::BadList);
-        refusal::both(self.check_entries(), distinct)
+        refusal::both(entries, distinct)
     }
 }

@@ -1,7 +1,13 @@
+use mathlib.Core.Path.{◌≡◌, ◌∙◌, sym}
 use native.Mathlib.Omega.{arith}
+use Rattle.focus_cache.proofs.Entries.{without_none, on_held}
 use Rattle.focus_cache.proofs.Calls.{held_fits, none_removed, removed_lengths, all_removed, few_left, remove_passed, remove_kept}
 use Rattle.focus_cache.proofs.remove.Goals as goal
 use Rattle.focus_cache.proofs.remove.Goals.{then-here-id, else-here-id}
+
+pub returns-then-not-contains : goal.returns-then-not-contains
+returns-then-not-contains c =
+    rw (without_none _ _ (sym c.contains.ensures ∙ c.if-not-contains.true)) (c.held-n.ensures, sym (on_held _ _ _))
 
 pub loop-i-init : goal.loop-i-init
 loop-i-init c = none_removed _ _ _

@@ -1,39 +1,47 @@
-use mathlib.Core.Path.{sym, ◌∙◌}
+use mathlib.Core.Path.{◌≡◌, sym, ◌∙◌}
 use native.Mathlib.Omega.{arith}
+use Rattle.std.proofs.Common.{rules}
+use Rattle.refusal.specs.Refusal.{number_in, number_of}
 use borrow.Author.Tests.{eqb-true, eqb-false}
-use Rattle.focus_pass.proofs.Whole.{whole_passed, whole_heard, last_passed, last_heard, none_passed, none_heard}
+use Rattle.focus_pass.proofs.Whole.{whole_worst, worst_left, whole_heard, last_worst, last_heard, none_worst, none_heard}
 use Rattle.focus_pass.proofs.listen_to.Goals as goal
-use Rattle.focus_pass.proofs.listen_to.Goals.{then-not-is_empty, else-not-is_empty}
 
-pub loop-kind-preserved : goal.loop-kind-preserved
-loop-kind-preserved c =
-    let rows = c.as_chunks.result.0.now in
+pub returns-in-Err-clause-refusal : goal.returns-in-Err-clause-refusal
+returns-in-Err-clause-refusal c =
     let cut = c.as_chunks.ensures in
-    let k = c.loop-kind.kind-index in (
-      whole_passed c.args.filter c.args.words.now rows cut.front k (omega (arith, cut.front_len)) _ c.event_of-event.ensures _ _ _ _ c.loop-kind.invariant.0 c.check.ensures c.is_err-refused.ensures.value,
-      whole_heard c.args.filter c.args.words.now rows cut.front k (omega (arith, cut.front_len)) _ c.event_of-event.ensures _ _ c.heard-heard.ensures ∙ c.loop-kind.invariant.1,
+    c.lowest_from.ensures
+    ∙ worst_left c.args.words.now _ cut.front c.loop-i.i (omega (arith, cut.front_len)) _ c.event_of-event.ensures _ _ c.loop-i.invariant.0 c.in-Err.ensures
+
+pub loop-i-preserved : goal.loop-i-preserved
+loop-i-preserved c =
+    let cut = c.as_chunks.ensures in
+    let i = c.loop-i.i in (
+      whole_worst c.args.words.now _ cut.front i (omega (arith, cut.front_len)) _ c.event_of-event.ensures _ _ c.loop-i.invariant.0 c.in_default.ensures,
+      whole_heard c.args.words.now _ cut.front i (omega (arith, cut.front_len)) _ c.event_of-event.ensures c.args.filter _ _ c.heard-heard.ensures ∙ c.loop-i.invariant.1,
     )
 
-pub returns-else-refused-clause-refusal : goal.returns-else-refused-clause-refusal
-returns-else-refused-clause-refusal c =
+pub returns-in_ok-check-clause-refusal : goal.returns-in_ok-check-clause-refusal
+returns-in_ok-check-clause-refusal c =
     let cut = c.as_chunks.ensures in
-    elim c.if-not-is_empty.branch [
-      | then-not-is_empty w ↦ last_passed c.args.words.now _ cut.back c.loop-kind.kind-index (omega (arith, cut.front_len)) c.args.filter (omega (arith, eqb-false _ 0 (sym c.is_empty.ensures ∙ w.if-not-is_empty.true))) _ w.event-event.ensures _ _ _ _ c.loop-kind.invariant.0 w.check-then-not-is_empty.ensures w.is_err-refused-then-not-is_empty.ensures.value (sym w.refused-is ∙ c.if-refused.false)
-      | else-not-is_empty w ↦ none_passed c.args.words.now _ cut.back c.loop-kind.kind-index (omega (arith, cut.front_len)) (eqb-true _ 0 (sym c.is_empty.ensures ∙ w.if-not-is_empty.false)) _ (c.loop-kind.invariant.0 (sym w.refused-is ∙ c.if-refused.false))
-    ]
+    last_worst c.args.words.now _ cut.back c.loop-i.i (omega (arith, cut.front_len)) (omega (arith, eqb-false _ 0 (sym c.is_empty.ensures ∙ c.if-not-is_empty.true))) _ c.event-event.ensures _ _ c.loop-i.invariant.0 c.in_ok-check.ensures
 
-pub returns-in_ok-check_events-clause-heard : goal.returns-in_ok-check_events-clause-heard
-returns-in_ok-check_events-clause-heard c =
+pub returns-in_ok-check-clause-heard : goal.returns-in_ok-check-clause-heard
+returns-in_ok-check-clause-heard c =
     let cut = c.as_chunks.ensures in
-    elim c.if-not-is_empty.branch [
-      | then-not-is_empty w ↦ w.heard-is ∙ last_heard c.args.words.now _ cut.back c.loop-kind.kind-index (omega (arith, cut.front_len)) c.args.filter (omega (arith, eqb-false _ 0 (sym c.is_empty.ensures ∙ w.if-not-is_empty.true))) _ w.event-event.ensures _ _ _ c.loop-kind.invariant.1 w.heard-heard-then-not-is_empty.ensures
-      | else-not-is_empty w ↦ w.heard-is ∙ none_heard c.args.words.now _ cut.back c.loop-kind.kind-index (omega (arith, cut.front_len)) (eqb-true _ 0 (sym c.is_empty.ensures ∙ w.if-not-is_empty.false)) c.args.filter _ _ c.loop-kind.invariant.1
-    ]
+    last_heard c.args.words.now _ cut.back c.loop-i.i (omega (arith, cut.front_len)) (omega (arith, eqb-false _ 0 (sym c.is_empty.ensures ∙ c.if-not-is_empty.true))) _ c.event-event.ensures c.args.filter _ _ _ c.loop-i.invariant.1 c.heard-heard-then-not-is_empty.ensures
 
-pub returns-else-refused-clause-heard : goal.returns-else-refused-clause-heard
-returns-else-refused-clause-heard c =
+pub returns-else-not-is_empty-clause-refusal : goal.returns-else-not-is_empty-clause-refusal
+returns-else-not-is_empty-clause-refusal c =
     let cut = c.as_chunks.ensures in
-    elim c.if-not-is_empty.branch [
-      | then-not-is_empty w ↦ w.heard-is ∙ last_heard c.args.words.now _ cut.back c.loop-kind.kind-index (omega (arith, cut.front_len)) c.args.filter (omega (arith, eqb-false _ 0 (sym c.is_empty.ensures ∙ w.if-not-is_empty.true))) _ w.event-event.ensures _ _ _ c.loop-kind.invariant.1 w.heard-heard-then-not-is_empty.ensures
-      | else-not-is_empty w ↦ w.heard-is ∙ none_heard c.args.words.now _ cut.back c.loop-kind.kind-index (omega (arith, cut.front_len)) (eqb-true _ 0 (sym c.is_empty.ensures ∙ w.if-not-is_empty.false)) c.args.filter _ _ c.loop-kind.invariant.1
-    ]
+    none_worst c.args.words.now _ cut.back c.loop-i.i (omega (arith, cut.front_len)) (eqb-true _ 0 (sym c.is_empty.ensures ∙ c.if-not-is_empty.false)) _ _ c.loop-i.invariant.0
+
+pub returns-else-not-is_empty-clause-heard : goal.returns-else-not-is_empty-clause-heard
+returns-else-not-is_empty-clause-heard c =
+    let cut = c.as_chunks.ensures in
+    none_heard c.args.words.now _ cut.back c.loop-i.i (omega (arith, cut.front_len)) (eqb-true _ 0 (sym c.is_empty.ensures ∙ c.if-not-is_empty.false)) c.args.filter _ _ c.loop-i.invariant.1
+
+pub returns-in_err-check-clause-refusal : goal.returns-in_err-check-clause-refusal
+returns-in_err-check-clause-refusal c =
+    let cut = c.as_chunks.ensures in
+    let told : number_in c.from_residual.result ≡ number_of c.in_err-check.field-0.0 = search rules in
+    told ∙ last_worst c.args.words.now _ cut.back c.loop-i.i (omega (arith, cut.front_len)) (omega (arith, eqb-false _ 0 (sym c.is_empty.ensures ∙ c.if-not-is_empty.true))) _ c.event-event.ensures _ _ c.loop-i.invariant.0 c.in_err-check.ensures
