@@ -251,12 +251,16 @@ pub fn stop_text_input(m: Memory) -> Memory
     with_fields(m, memory_fields::stop_text_input(fields_of(m)))
 }
 
-// ---- flags
+// ---- flags: a flag is set in a copy of the record, since to go through its fields would copy the
+// tables more than once
 
 pub fn interrupt_ime(m: Memory) -> Memory
     ensures { result ≡ with_ime m true }
 {
-    with_fields(m, memory_fields::interrupt_ime(fields_of(m)))
+    Memory {
+        requested_interrupt_ime: true,
+        ..m
+    }
 }
 
 pub fn should_interrupt_ime(m: Memory) -> bool
@@ -274,8 +278,8 @@ pub fn everything_is_visible(m: Memory) -> bool
 pub fn set_everything_is_visible(m: Memory, value: bool) -> Memory
     ensures { result ≡ with_everything m value }
 {
-    with_fields(
-        m,
-        memory_fields::set_everything_is_visible(fields_of(m), value),
-    )
+    Memory {
+        everything_is_visible: value,
+        ..m
+    }
 }

@@ -14,6 +14,7 @@ use focus_rules::Nav;
 // OpenPopup, where its id is not 0: its position, and whether it was opened or kept in this pass. Id 0 is none, as everywhere: an Option would have a second none, an open popup of id 0, which
 // egui cannot have.
 #[derive(Clone, Copy)]
+#[repr(C)]
 pub struct Popup {
     pub id: u64,
     pub pos: Option<Pos2>,
@@ -38,6 +39,7 @@ pub struct Memory {
 // All of it but the tables: the focus's fields, how many ids are cached and where an interest call looks first; how many layers there are, how many of them have a place, and how many areas
 // have a state; the popup and the flags.
 #[derive(Clone, Copy)]
+#[repr(C)]
 pub struct Fields {
     pub nav: Nav,
     pub cached: usize,

@@ -16,6 +16,12 @@ unfolding lowest
 none_right zero b e = sym e
 none_right (suc a) b e = rw e
 
+pub left_lower : (a b : ℕ) → (a ≡ 0 → ⊥) → a < b → a ≡ lowest a b
+unfolding lowest
+left_lower zero b h k = absurd (h refl)
+left_lower (suc a) zero h k = omega arith
+left_lower (suc a) (suc b) h k = omega arith
+
 pub right_lower : (a b : ℕ) → (b ≡ 0 → ⊥) → b ≤ a → b ≡ lowest a b
 unfolding lowest
 right_lower zero b h k = refl

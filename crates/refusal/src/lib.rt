@@ -64,6 +64,19 @@ pub fn both(a: Result<(), Refusal>, b: Result<(), Refusal>) -> Result<(), Refusa
     }
 }
 
+// The same of two numbers, any two; 0 is none.
+pub fn lowest(a: u64, b: u64) -> u64
+    ensures { result ≡ lowest a b }
+{
+    if a == NONE {
+        return b;
+    }
+    if b == NONE {
+        return a;
+    }
+    if a < b { a } else { b }
+}
+
 pub fn check_id(id: u64) -> Result<(), Refusal>
     ensures { number_in result ≡ id_refusal id }
 {
@@ -83,7 +96,7 @@ pub fn answer_tells_number<A>()
 {}
 
 // The number of a call that is taken, as C reads it.
-const NONE: u64 = 0;
+pub const NONE: u64 = 0;
 
 // How many layers the stack holds, widgets the registry and ids the focus cache; how many events begin a pass and used entries end it.
 pub const LAYERS: usize = 64;

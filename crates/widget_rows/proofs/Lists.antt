@@ -2,14 +2,14 @@
 use mathlib.Core.Path.{◌≡◌, refl}
 use mathlib.Core.Bool.{Bool, true, false, cond}
 use mathlib.Core.List.{List, ◌++◌, append_assoc}
-use Prim.Native.Nat.{ℕ, zero, suc, ◌+◌, ◌-◌, ◌*◌, ◌<◌, ◌≤◌}
+use Prim.Native.Nat.{ℕ, zero, suc, ◌+◌, ◌-◌, ◌*◌, ◌/◌, ◌<◌, ◌≤◌}
 use native.Mathlib.Numerals.{add-one}
 use native.Mathlib.Omega.{arith}
 use lib.ListN.{length, set, take, drop, length-set, length-append, length-take, length-drop, take-append-drop}
 use lib.Seq.{take-add, drop-drop, take-set-le, drop-set-lt, drop-set-add, get_or-drop}
 use Rattle.layers.specs.declared.LayerId.{LayerId}
 use Rattle.std.specs.Prelude.{None, Some}
-use Rattle.widget_rows.specs.Rows.{Rows, is_in, index_at, record_at, listed_in, one_more, one_less, next_index, lowered_at, renumbered_rows}
+use Rattle.widget_rows.specs.Rows.{Rows, is_in, index_at, record_at, listed_in, one_more, one_less, next_index, lowered_at, renumbered_rows, renumbered}
 
 -- ---- the index after the last, from row k down
 pub next_hit : (words : List ℕ) (k : ℕ) (layer : LayerId) → 0 < k → is_in words (k - 1) layer ≡ true → next_index words k layer ≡ one_more (index_at words (k - 1))
@@ -82,6 +82,10 @@ rows_length : (n : ℕ) (layer : LayerId) (tail : List ℕ) → length (renumber
 unfolding renumbered_rows
 rows_length zero layer tail = refl
 rows_length (suc n) layer tail = simp (length-append, length-take, rows_length n layer (drop 10 tail), length-drop, lowered_length tail layer 0) (omega arith)
+
+pub renumbered_length : (layer : LayerId) (tail : List ℕ) → length (renumbered layer tail) ≡ length tail
+unfolding renumbered
+renumbered_length layer tail = rows_length (length tail / 10) layer tail
 
 -- all is numbered anew
 module _ (layer : LayerId) (tail : List ℕ) where
