@@ -1,7 +1,7 @@
 // `Focus` of memory/mod.rs as a record by value over the core in place (crates `focus_calls`, `focus_pass`, `focus_end`), and thin forms of begin, interest and end that borrow it to write it.
 #![tactic(auto)]
 
-ghost use Rattle.std.specs.Prelude.{◌≡◌, eqb, IfOk, OnOk, cond, ltb};
+ghost use Rattle.std.specs.Prelude.{◌≡◌, eqb, IfOk, cond, ltb};
 ghost use Rattle.refusal.specs.Refusal.{none, bad_list, number_in, answer, id_refusal};
 ghost use Rattle.refusal.specs.Limits.{events as most_events, used as most_used};
 ghost use Rattle.focus_rules.specs.Rules.{id_or_nothing, layer_or_nothing};

@@ -1,6 +1,6 @@
 // The focus's calls outside of a pass's begin, interest and end, most of them `Memory`'s in memory/mod.rs, on the fields by value. Id 0 is none.
-// A call that sets one field writes it in a copy of all: by a struct update each field is copied on
-// its own, which took an export half as long again.
+// Three calls that set one field write it in a copy of all: by a struct update each field is copied
+// on its own, which takes an export 1.4 times as long.
 #![tactic(auto)]
 
 ghost use Rattle.std.specs.Prelude.{◌≡◌, eqb, IfOk};

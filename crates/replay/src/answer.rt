@@ -8,8 +8,10 @@ use std::rt::Stdout;
 // the other half at least.
 const ROOM: usize = 262144;
 
-// The bytes, the place where the line's answer begins, and the place after those that are put: past their end where the answer does not fit. The `Vec`'s own length would be no plainer: crate `text`
-// puts at a place of a lent slice and says by the place that something did not fit, so beside the `Vec` a flag would stand, and each number be put elsewhere first.
+// The bytes, the place where the line's answer begins, and the place after those that are put: past
+// their end where the answer does not fit. The `Vec`'s own length would be no plainer: crate `text`
+// puts at a place of a lent slice and says by the place that something did not fit, so beside the
+// `Vec` a flag would stand, and each number be put elsewhere first.
 #[derive(Drop)]
 pub struct Answer {
     bytes: Vec<u8>,
@@ -35,7 +37,8 @@ impl Answer {
         self.end < self.bytes.len()
     }
 
-    // The line's answer waits with those before it, which all go out where they take more than half of the room.
+    // The line's answer waits with those before it; all go out where they take more than half of
+    // the room.
     pub fn keep(&mut self, screen: &mut Stdout) -> io::Result<()> {
         self.start = self.end;
         if ROOM / 2 < self.end {

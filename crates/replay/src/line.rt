@@ -1,4 +1,4 @@
-// A line to be answered. None is a line that does not fit the protocol.
+// A line to be answered.
 use crate::answer::Answer;
 use crate::words::Words;
 

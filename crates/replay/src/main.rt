@@ -27,7 +27,8 @@ const CHUNK: usize = 65536;
 
 const CHUNKS: usize = 65536;
 
-// How many bytes of a line are held. A longer one is skipped, and answered as an empty one, `bad`.
+// How long a line may be. Of a longer one this many bytes and one are held; it is answered as an
+// empty one, `bad`.
 const LONGEST: usize = 65536;
 
 // Reads until the chunk is full or the input ends; how many bytes there are. Where reading fails,

@@ -71,7 +71,7 @@ impl UsedEntries<'_> {
         ensures { number_in result ≡ used_refusal limit (lent self.entry) }
     {
         refusal::check(self.ids.len() <= limit, Refusal::BadList)?;
-        // The entries first: where there is none, the cells of `repeats` are not made either.
+        // The entries first: where there are none, the compiler makes no cells for `repeats` either.
         let entries = self.check_entries();
         let distinct = refusal::check(!repeats(self.ids), Refusal::BadList);
         refusal::both(entries, distinct)
